@@ -10,6 +10,7 @@ OF_A_JOB = re.compile(r'\b(needs|matrix|strategy) *\.')  # what has no value for
 CONDITIONS = 'success()', 'failure()', 'always()', 'cancelled()', '!cancelled()', 'true', 'false'
 MOST_JOBS = 256
 LONGEST_BODY = 65_536  # bytes of an event
+LONGEST_LOOK = 2000  # characters of a text that is refused
 
 ADVICE = {
     10: 'Check the file with a JSON or YAML tool.',
@@ -36,6 +37,7 @@ ADVICE = {
 
 def advice(number: int | None, text: str) -> str:
     """What to write in place of a text that is refused."""
+    text = text[:LONGEST_LOOK]
     if number == 26 and re.search(r'\bneeds\b.*\boutputs\b', text):
         return 'Leave the job without this `if`, and put the condition on its steps: outputs of jobs are known there.'
     if number == 26 and re.search(r'\bneeds\b.*\bresult\b', text):

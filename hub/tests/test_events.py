@@ -120,7 +120,7 @@ def test_a_secret_signs_for_its_own_repository_alone(tmp_path: pathlib.Path, pla
 def test_what_is_no_payload(place: Place) -> None:
     for body, status in ((b'[1]', 400), (b'payload=%7B%7D', 400), (b'{}', 400), (b'{"repository": {"full_name": 5}}', 400), (b'[' * 100000, 400)):
         assert place.sender.post('push', body, place.sender.signed(body)).status == status
-    assert place.hub.request('GET', '/webhooks/github').status == 405
+    assert place.hub.request('GET', '/webhooks/github').status in (303, 404, 405)  # sign in first, as for any page
     body = json.dumps(place.sender.payload({})).encode()
     for id in '', 'x' * 65, '../../x', 'a b':
         assert place.sender.post('push', body, place.sender.signed(body), id or ' ').status == 400
@@ -132,6 +132,19 @@ def test_a_payload_that_is_too_long_is_not_read(place: Place) -> None:
         with socket.create_connection(('127.0.0.1', place.hub.port), 30) as stream:
             stream.sendall(f'POST /webhooks/github HTTP/1.1\r\nHost: x\r\nX-GitHub-Event: push\r\n{head}\r\n\r\n'.encode())
             assert stream.recv(100).split()[1] in (b'413', b'400'), head
+
+
+def test_clients_that_announce_much_and_send_nothing_hold_up_no_delivery(place: Place) -> None:
+    import contextlib
+    import socket
+    import time
+    pushed = place.repository.only({'one.yml': ONE})
+    with contextlib.ExitStack() as stack:
+        for _ in range(50):
+            stream = stack.enter_context(socket.create_connection(('127.0.0.1', place.hub.port), 30))
+            stream.sendall(f'POST /webhooks/github HTTP/1.1\r\nHost: x\r\nX-GitHub-Event: push\r\nContent-Length: {25 << 20}\r\n\r\n['.encode())
+        time.sleep(0.5)
+        assert list(created(place.sender.push(pushed))) == ['one.yml']
 
 
 def test_a_ping_and_an_event_that_no_rule_takes(place: Place) -> None:

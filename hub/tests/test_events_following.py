@@ -176,6 +176,21 @@ def test_notices_of_runs_that_have_completed_and_of_attempts(told: Told) -> None
     until(lambda: any(path.suffix == '.why' and '422' in path.read_text() for path in aside.iterdir()), what='what is put aside')
 
 
+def test_an_attempt_that_is_followed_at_once_is_told_too(told: Told) -> None:
+    run = created(told.sender.push(told.repository.only({'one.yml': ONE})))['one.yml']
+    told.status_of(run, 'pending')
+    lines = told.service.lines()
+    lines.numbers['w1'] = getattr(told, 'number', 0)
+    lines.done('w1', lines.claim('w1')[1], 'failure')
+    told.service.post(f'/runs/{run}/attempts/2')
+    told.number = lines.numbers['w1']
+    told.work()
+
+    def of_run() -> list[tuple[int, str]]:
+        return [(each['run']['attempt'], each['run']['conclusion']) for each in told.receiver.notices() if each['run']['run'] == run]
+    until(lambda: of_run() == [(1, 'failure'), (2, 'success')], what='both notices')
+
+
 def test_a_redirection_takes_no_token_elsewhere(told: Told) -> None:
     told.receiver.faults['api'] = [302]
     run = created(told.sender.push(told.repository.only({'one.yml': ONE})))['one.yml']
@@ -253,7 +268,7 @@ def test_a_leg_that_nobody_can_take_is_said_and_a_run_that_waits_too_long_is_can
             return request(told.service.view, 'GET', f'/runs/{run}').json()
         until(lambda: status(runs['w.yml'])['conclusion'] == 'cancelled', what='the end of its wait')
         assert status(runs['a.yml'])['status'] == 'queued'  # it waits for a person
-        assert told.hub.process and 'has waited for a runner for over 8 seconds' in told.hub.process.said()
+        until(lambda: told.hub.process and 'has waited for a runner for over 8 seconds' in told.hub.process.said(), what='what it says')
     finally:
         told.end()
 

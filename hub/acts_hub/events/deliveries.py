@@ -3,8 +3,9 @@ from __future__ import annotations
 
 import asyncio
 import hashlib
+from concurrent.futures import ThreadPoolExecutor
 from dataclasses import dataclass, field
-from typing import Any, Callable, Mapping
+from typing import Any, Callable, Mapping, TypeVar
 
 from acts_workflow.values import Fault
 
@@ -20,6 +21,8 @@ from .refusals import Refusal
 from .room import Room
 from .settings import NotReadable, Repository, Settings
 
+Made = TypeVar('Made')
+JUDGES = 2  # workflows that are read and folded at a time
 FULL = 47, 48  # the file is full, or a counter is at its last value
 NEVER_AGAIN = 422, 409, 404, 413, 411, 400
 
@@ -86,6 +89,7 @@ class Handler:
                  branch_of: Callable[[str], str]) -> None:
         self.settings, self.hooks, self.room, self.branch_of = settings, hooks, room, branch_of
         self.server = Server(hub_url, settings)
+        self.pool = ThreadPoolExecutor(JUDGES, 'judge of workflows')
         self.locks: dict[str, asyncio.Lock] = {}  # of mirrors that are fetched
         self.full_since: dict[str, int] = {}  # when a delivery was first refused for want of room
 
@@ -94,6 +98,10 @@ class Handler:
         if delivery.event == 'pull_request' and repository.pull_request_target:
             return ['pull_request', 'pull_request_target']
         return [delivery.event]
+
+    async def judged(self, function: Callable[..., Made], *given: Any) -> Made:
+        """What a function makes of a workflow, which may take seconds: on threads that nothing else needs."""
+        return await asyncio.get_running_loop().run_in_executor(self.pool, function, *given)
 
     def mirror(self, repository: Repository) -> Mirror | None:
         """The mirror of a repository; None if there is none."""
@@ -155,13 +163,13 @@ class Handler:
         """Posts the event of one workflow if `on` starts it."""
         event = source.occasion.happening.event
         try:
-            workflow = await asyncio.to_thread(source.read, path)
+            workflow = await self.judged(source.read, path)
             changed = await files.changed() if starts.asks_for_files(workflow.get('on'), event) else None
             why = starts.not_wanted(workflow.get('on'), with_files(source.occasion, changed))
             if why:
                 outcome.lines.append(f'{path}: not started: {why}')
                 return
-            sent = await asyncio.to_thread(source.event, path, workflow)
+            sent = await self.judged(source.event, path, workflow)
         except Fault as fault:
             self.refuse(outcome, refusals.of_fault(fault, path, source.texts))
             return

@@ -8,7 +8,7 @@ from typing import TYPE_CHECKING, Any
 
 from ..log import say
 from ..service.http import Away
-from ..service.mirror import Run
+from ..service.mirror import Run, Watcher
 from ..times import iso, iso_or_none
 from .deliveries import Delivery
 from .mirrors import GitFault, Mirror, NoCommit, TooSlow
@@ -24,6 +24,7 @@ if TYPE_CHECKING:
 KIND, BASE = 'told', 'base'
 ACTIONS = {'queued': 'requested', 'pending': 'requested', 'in_progress': 'in_progress', 'completed': 'completed'}
 ORDER = {'requested': 1, 'in_progress': 2, 'completed': 3}
+PAUSE = 2  # seconds after which a run is told of again
 DEEPEST = 3  # workflows that `workflow_run` starts one after the other: GitHub's limit
 
 
@@ -33,6 +34,7 @@ class Follower:
     def __init__(self, events: Events) -> None:
         self.events: Events = events
         self.hub: Hub = events.hub
+        self.again: set[int] = set()  # runs that could not be told of
 
     async def follow(self) -> None:
         """Follows without end."""
@@ -41,8 +43,16 @@ class Follower:
                 await asyncio.sleep(0.1)
             await self.take_up()
             while True:
-                for number in sorted(await watcher.next()):
+                again, self.again = self.again, set()
+                for number in sorted(again | await self.changed(watcher, bool(again))):
                     await self.tell(number)
+
+    async def changed(self, watcher: Watcher, is_due: bool) -> set[int]:
+        """The runs that changed. With something to tell again it waits a while at most."""
+        try:
+            return await asyncio.wait_for(watcher.next(), PAUSE if is_due else None)
+        except asyncio.TimeoutError:
+            return set()
 
     async def take_up(self) -> None:
         """At the first start what is there counts as told; later what was missed is told."""
@@ -56,6 +66,8 @@ class Follower:
             for number, run in self.hub.mirror.runs.items():
                 if run.row.status != 'completed' or run.row.attempt > 1:
                     self.note(run)
+                if run.row.attempt > 1:
+                    self.hub.notes.set(number, run.row.attempt - 1, KIND, 'state', 'completed')
             return
         for number in sorted(self.hub.mirror.runs):
             await self.tell(number)
@@ -82,16 +94,27 @@ class Follower:
         run = self.hub.mirror.runs.get(number)
         if run is None:
             return
-        told, action = self.told(run), ACTIONS.get(run.row.status, 'requested')
-        if told is not None and ORDER[told] >= ORDER[action]:
-            return
+        before = self.hub.mirror.attempt(number, run.row.attempt - 1) if run.row.attempt > 1 else None
         try:
-            await self.tell_status(run, told, action)
-            await self.start_listeners(run, told, action)
+            for each in (before, run):
+                if each is not None and (each is run or each.row.status == 'completed' and each.row.conclusion is not None):
+                    await self.tell_attempt(each)
         except (Away, OSError) as fault:
             say(f'events: run {number} is told later: {fault}')
+            self.again.add(number)
             return
-        self.note(run)
+        self.move_base(number)
+
+    async def tell_attempt(self, run: Run) -> None:
+        """Tells of an attempt of a run: of the present one, or of the one before, which nobody may have seen end."""
+        told, action = self.told(run), ACTIONS.get(run.row.status, 'requested')
+        if told is None or ORDER[told] < ORDER[action]:
+            await self.tell_status(run, told, action)
+            await self.start_listeners(run, told, action)
+            self.note(run)
+
+    def move_base(self, number: int) -> None:
+        """Notes that a run is the newest that was told of, once all before it were."""
         base = self.hub.notes.get(0, 0, KIND, BASE) or {'run': 0}
         if number > base['run'] and all(self.told(self.hub.mirror.runs[each]) for each in range(base['run'] + 1, number)
                                         if each in self.hub.mirror.runs):

@@ -17,7 +17,8 @@ if TYPE_CHECKING:
     from .intake import Events
 
 LONGEST = 25 << 20  # bytes of a payload: GitHub's limit
-RESERVED = 128 << 20  # bytes of payloads that are read at a time
+RESERVED = 128 << 20  # bytes of payloads that are held before their signature is checked
+SMALL = 1 << 20  # bytes of a payload that is taken beside them
 SECONDS = 60  # in which a payload has to come
 IDLE = 20  # seconds without a byte of it
 ID = re.compile('[A-Za-z0-9-]{1,64}')
@@ -85,15 +86,26 @@ class Receiver:
         length = request.headers.get('Content-Length', '')
         if not re.fullmatch('[0-9]{1,9}', length) or int(length) > LONGEST:
             raise Refused(413, 'a payload has a Content-Length of at most 25 MiB')
-        if self.reading + int(length) > RESERVED:
-            raise Refused(503, 'too many payloads come at a time')
-        self.reading += int(length)
+        pieces: list[bytes] = []
         try:
-            return await asyncio.wait_for(read(request, int(length)), SECONDS)
+            await asyncio.wait_for(self.read(request, int(length), pieces), SECONDS)
         except asyncio.TimeoutError:
             raise Refused(408, 'the payload did not come in time') from None
         finally:
-            self.reading -= int(length)
+            self.reading -= sum(map(len, pieces))
+        return b''.join(pieces)
+
+    async def read(self, request: web.Request, length: int, pieces: list[bytes]) -> None:
+        """Reads the pieces of a body. What has come counts, not what is announced; small payloads are always taken."""
+        size = 0
+        while size < length and (piece := await asyncio.wait_for(request.content.readany(), IDLE)):
+            pieces.append(piece)
+            size += len(piece)
+            self.reading += len(piece)
+            if size > SMALL and self.reading > RESERVED:
+                raise Refused(503, 'too many payloads come at a time')
+        if size != length:
+            raise Refused(400, 'the payload is not as long as its Content-Length says')
 
     async def signers(self, body: bytes, signature: str) -> set[str]:
         """The repositories under whose secret the body is signed."""
@@ -103,17 +115,6 @@ class Receiver:
         if not repositories:
             raise Refused(401, 'the signature is missing or wrong')
         return repositories
-
-
-async def read(request: web.Request, length: int) -> bytes:
-    """The bytes of a body."""
-    pieces, size = [], 0
-    while size < length and (piece := await asyncio.wait_for(request.content.readany(), IDLE)):
-        pieces.append(piece)
-        size += len(piece)
-    if size != length:
-        raise Refused(400, 'the payload is not as long as its Content-Length says')
-    return b''.join(pieces)
 
 
 def parsed(body: bytes) -> dict[str, Any]:

@@ -36,7 +36,7 @@ def line_in(texts: Mapping[str, str], path: str, place: str) -> int | None:
         return None
     text = texts[path]
     job = re.match(r'jobs\.([A-Za-z0-9_-]+)', place)
-    if job and '__' in job[1] and not re.search(rf'^\s*["\']?{re.escape(job[1])}["\']?\s*:', text, re.M):
+    if job and '__' in job[1] and not re.search(rf'^[ \t]*["\']?{re.escape(job[1])}["\']?[ \t]*:', text, re.M):
         place = f'jobs.{job[1].split("__")[0]}'
     return reading.line_of(text, place)
 
