@@ -35,7 +35,7 @@ async def mirrored(stand: StandIn, folder: pathlib.Path) -> AsyncIterator[Mirror
     made = Mirror(ViewPort(stand.view), HookPort(stand.hook), database)
     task = asyncio.create_task(made.follow())
     try:
-        await until(lambda: made.is_whole)
+        await until(lambda: made.is_whole, 120)
         yield made
     finally:
         task.cancel()

@@ -17,6 +17,7 @@ from .schema import STEPS
 Statement = tuple[str, Sequence[Any]]
 MAX_WAITING = 200_000
 BATCH = 500
+GATHER_SECONDS = 0.005
 
 
 class LedgerError(Exception):
@@ -187,10 +188,14 @@ class Database:
         pause = 0.1
         while True:
             with self._wake:
+                is_idle = not self._waiting
                 while not self._waiting and not self._ending:
-                    self._wake.wait()
+                    self._wake.wait(1)
                 if not self._waiting and self._ending:
                     return
+            if is_idle:
+                time.sleep(GATHER_SECONDS)                  # what is written at about the same time is one transaction
+            with self._wake:
                 batch = [self._waiting[index] for index in range(min(BATCH, len(self._waiting)))]
             if self._try(batch):
                 pause = 0.1
