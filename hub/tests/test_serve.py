@@ -5,6 +5,7 @@ import contextlib
 import json
 import os
 import pathlib
+import re
 import socket
 import time
 from collections.abc import Callable
@@ -133,3 +134,30 @@ def test_requests_that_are_none_get_an_answer_and_harm_nothing(hub: HubProcess) 
         assert status in (303, 400, 404), (path, status)
     assert hub.get('/healthz').text == 'ok\n' and hub.process is not None and 'Traceback' not in hub.process.said()
     assert json.loads(hub.get('/api/v3/nowhere').body)['message']
+
+
+def test_a_browser_signs_in_by_tls_acts_and_is_out_once_its_token_is_revoked(make_hub: Callable[..., HubProcess], service: Service) -> None:
+    hub = make_hub(tls=True)
+    token, run = hub.token('mona', 'write', repositories=('octo/*',)), service.admit()
+    page, kind = f'/octo/hello/actions/runs/{run}', {'Content-Type': 'application/x-www-form-urlencoded', 'Origin': hub.url}
+    until(lambda: hub.get('/api/v3' + f'/repos/octo/hello/actions/runs/{run}', token).status == 200)
+    refused = hub.get(page, headers={'Accept': 'text/html'})
+    assert refused.status == 303 and refused.headers['Location'].startswith('/sign-in')
+    assert hub.post('/sign-in', 'token=acts_wrong', headers=kind).status == 401
+    answer = hub.post('/sign-in', f'token={token}&back=//evil.example/', headers=kind)
+    assert answer.status == 303 and not answer.headers['Location'].startswith('//')
+    cookie = answer.headers['Set-Cookie']
+    assert all(part in cookie for part in ('__Host-acts_session=', 'Secure', 'HttpOnly', 'SameSite=Lax'))
+    signed = {'Cookie': cookie.partition(';')[0]}
+    text = hub.get(page, headers=signed).text
+    form = re.search(r'name="form_token" value="([0-9a-f]{64})"', text)
+    assert form is not None and token not in text
+    assert hub.post(f'{page}/cancel', 'form_token=' + '0' * 64, headers={**kind, **signed}).status == 403
+    assert hub.post(f'{page}/cancel', f'form_token={form[1]}', headers={**kind, **signed, 'Origin': 'https://evil.example'}).status == 403
+    assert service.run(run)['status'] == 'queued'
+    assert hub.post(f'{page}/cancel', f'form_token={form[1]}', headers={**kind, **signed}).status == 303
+    until(lambda: service.run(run)['conclusion'] == 'cancelled')
+    hub.restart()
+    assert hub.get(page, headers=signed).status == 200      # a restart signs nobody out
+    assert hub.command('token', '--config', str(hub.config), 'revoke', 'mona').returncode == 0
+    assert hub.get(page, headers={**signed, 'Accept': 'text/html'}).status == 303
