@@ -217,17 +217,6 @@ def test_behind_the_gateway_a_runner_claims_its_own(hub: HubProcess, service: Se
 
 # ---- faults and strangers around the hub
 
-@contextlib.contextmanager
-def small_disk(folder: pathlib.Path, size: str) -> Iterator[pathlib.Path]:
-    """A file system of its own, of a size."""
-    folder.mkdir()
-    subprocess.run(['mount', '-t', 'tmpfs', '-o', f'size={size},mode=700', 'tmpfs', str(folder)], check=True)
-    try:
-        yield folder
-    finally:
-        subprocess.run(['umount', '--lazy', str(folder)], check=True)
-
-
 def start_runner(hub: HubProcess, folder: pathlib.Path, name: str = 'up') -> Process:
     """A runner of the hub."""
     token = folder / f'{name}.token'
@@ -239,38 +228,13 @@ def start_runner(hub: HubProcess, folder: pathlib.Path, name: str = 'up') -> Pro
     return made
 
 
-def loud(lines: int) -> bytes:
-    """A run whose step prints lines of a hundred characters."""
-    return body_of(jobs={'build': {'runs-on': 'linux', 'steps': [{'run': f"yes {'x' * 100} | head -n {lines} || true"}]}})
-
-
-@pytest.mark.skipif(os.geteuid() != 0, reason='needs root, to mount a small disk')
-def test_a_full_disk_of_the_hub_stops_no_run(make_hub: Callable[..., HubProcess], service: Service, tmp_path: pathlib.Path) -> None:
-    """With a disk of two megabytes that a log has filled, runs are admitted, claimed and reported; the hub answers, and says what it lost."""
-    with small_disk(tmp_path / 'disk', '2m') as disk:
-        hub = make_hub(tables={'hub': {'folder': str(disk)}})
-        hub.folder.joinpath('state').symlink_to(disk)
-        runner = start_runner(hub, tmp_path)
-        try:
-            run = service.admit(loud(60_000))
-            until(lambda: service.run(run)['conclusion'] == 'success', 120, 'the loud run')
-            with contextlib.suppress(OSError), open(disk / 'filler', 'ab', buffering=0) as filler:
-                while True:
-                    filler.write(bytes(4096))
-            assert shutil.disk_usage(disk).free == 0
-            runs = [service.admit() for _ in range(5)]
-            until(lambda: [service.run(one)['conclusion'] for one in runs] == 5 * ['success'], 120, 'the runs on a full disk')
-            until(lambda: hub.get('/healthz').status == 200)
-        finally:
-            runner.kill(signal.SIGTERM)
-
-
 def test_a_log_of_a_gigabyte_is_bounded(make_hub: Callable[..., HubProcess], service: Service, tmp_path: pathlib.Path) -> None:
     """A step that prints far more than a leg may keep: the run ends well, the hub keeps its bound, and stays small."""
     hub = make_hub(tables={'retention': {'log_bytes_a_leg': 1 << 20}})
     runner = start_runner(hub, tmp_path)
     try:
-        run = service.admit(loud(10_000_000))
+        step = {'run': 'head -c 1000000000 /dev/zero | tr "\\0" x | fold -w 50000'}
+        run = service.admit(body_of(jobs={'build': {'runs-on': 'linux', 'steps': [step]}}))
         until(lambda: service.run(run)['conclusion'] == 'success', 400, 'the loud run')
         kept = sum(path.stat().st_size for path in (hub.state / 'logs').rglob('*') if path.is_file())
         assert 1 << 18 < kept < 4 << 20
