@@ -28,7 +28,8 @@ class Browser:
     def __init__(self) -> None:
         options = Options()
         options.binary_location = '/usr/bin/chromium'
-        for word in '--headless=new', '--no-sandbox', '--disable-dev-shm-usage', '--hide-scrollbars', '--window-size=1280,900', '--force-color-profile=srgb':
+        for word in ('--headless=new', '--no-sandbox', '--disable-dev-shm-usage', '--hide-scrollbars',
+                     '--window-size=1280,900', '--force-color-profile=srgb'):
             options.add_argument(word)
         options.set_capability('goog:loggingPrefs', {'browser': 'ALL'})
         self.driver = webdriver.Chrome(service=Driver('/usr/bin/chromedriver'), options=options)
@@ -41,8 +42,10 @@ class Browser:
 
     def look(self, size: tuple[int, int] = WIDE, dark: bool = False, still: bool = False) -> None:
         """Sets the size of the window, and what the system prefers."""
-        self.command('Emulation.setDeviceMetricsOverride', width=size[0], height=size[1], deviceScaleFactor=1, mobile=False)
-        features = [{'name': 'prefers-color-scheme', 'value': 'dark' if dark else 'light'}, {'name': 'prefers-reduced-motion', 'value': 'reduce' if still else ''}]
+        self.command('Emulation.setDeviceMetricsOverride', width=size[0], height=size[1], deviceScaleFactor=1,
+                     mobile=False)
+        features = [{'name': 'prefers-color-scheme', 'value': 'dark' if dark else 'light'},
+                    {'name': 'prefers-reduced-motion', 'value': 'reduce' if still else ''}]
         self.command('Emulation.setEmulatedMedia', features=features)
 
     def open(self, path: str) -> None:
@@ -99,7 +102,8 @@ class Browser:
 
     def is_live(self) -> None:
         """Waits till the page follows changes."""
-        self.until(lambda: self.run('return document.getElementById("live").dataset.state') == 'on', 'the page follows changes')
+        self.until(lambda: self.run('return document.getElementById("live").dataset.state') == 'on',
+                   'the page follows changes')
 
     def said(self) -> list[str]:
         """What the console said since the last time."""

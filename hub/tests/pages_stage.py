@@ -1,4 +1,4 @@
-"""Runs for the pages to show: admitted to the real service, worked on by runners by hand, with logs as the gateway keeps them."""
+"""Runs for the pages to show: admitted to the real service, worked on by runners by hand, with logs."""
 from __future__ import annotations
 
 import json
@@ -16,9 +16,11 @@ MATRIX = {'python': ['3.10', '3.11'], 'os': ['linux', 'macos']}
 JOBS: dict[str, Any] = {
     'lint': {'runs-on': 'linux', 'steps': [{'run': 'make lint'}]},
     'build': {'runs-on': 'linux', 'steps': [{'run': 'make'}]},
-    'test': {'runs-on': 'linux', 'needs': ['lint', 'build'], 'strategy': {'fail-fast': False, 'matrix': MATRIX}, 'steps': [{'run': 'make test'}]},
+    'test': {'runs-on': 'linux', 'needs': ['lint', 'build'], 'strategy': {'fail-fast': False, 'matrix': MATRIX},
+             'steps': [{'run': 'make test'}]},
     'docs': {'runs-on': 'linux', 'needs': 'lint', 'steps': [{'run': 'make docs'}]},
-    'deploy': {'runs-on': 'linux', 'needs': ['test', 'docs'], 'name': 'Deploy to staging', 'steps': [{'run': 'make deploy'}]}}
+    'deploy': {'runs-on': 'linux', 'needs': ['test', 'docs'], 'name': 'Deploy to staging',
+               'steps': [{'run': 'make deploy'}]}}
 
 
 def stamp(at: float) -> str:
@@ -89,10 +91,12 @@ class Stage:
         self.lines = self.service.lines()
         self.logs = LogStore(self.hub.state / 'logs', Retention().log_bytes_a_leg)
 
-    def admit(self, message: str = 'Say hello', *, jobs: Any = None, name: str = 'CI', path: str = '.github/workflows/ci.yml', event: str = 'push', repository: str = '',
+    def admit(self, message: str = 'Say hello', *, jobs: Any = None, name: str = 'CI',
+              path: str = '.github/workflows/ci.yml', event: str = 'push', repository: str = '',
               github: Any = None, workflow: Any = None) -> int:
         """Admits an event."""
-        return self.service.admit(body_of(name, jobs, repository=repository or self.repository, path=path, message=message, github=github, workflow=workflow), event)
+        return self.service.admit(body_of(name, jobs, repository=repository or self.repository, path=path,
+                                          message=message, github=github, workflow=workflow), event)
 
     def claim(self, labels: str = 'linux', name: str = '') -> Leg:
         """A runner takes the next leg."""
@@ -101,7 +105,8 @@ class Stage:
         words = self.lines.claim(name, labels)
         assert words[0] == 'lease', words
         run = int(words[2])
-        return Leg(self, name, int(words[1]), run, words[3], int(words[4]), self.service.run(run)['attempt'], json.loads(words[5]))
+        return Leg(self, name, int(words[1]), run, words[3], int(words[4]), self.service.run(run)['attempt'],
+                   json.loads(words[5]))
 
     def claims(self, job: str, labels: str = 'linux') -> Leg:
         """The leg of a job; others before it end well."""
@@ -110,19 +115,6 @@ class Stage:
             if leg.job == job:
                 return leg
             leg.begin('Run it').say('it works').end().done()
-
-    def drain(self) -> None:
-        """Ends all that goes on, so that the next test finds an empty queue."""
-        for row in json.loads(self.get('/runs?status=in_progress')) + json.loads(self.get('/runs?status=queued')) + json.loads(self.get('/runs?status=pending')):
-            self.service.post(f'/runs/{row["run"]}/cancel')
-        for runner in json.loads(self.get('/runners', 'runners')):
-            if runner['lease']:
-                self.service.post(f'/runners/{runner["runner"]}/lost')
-
-    def get(self, path: str, member: str = 'runs') -> str:
-        """A list of the view port, as JSON."""
-        from harness import request
-        return json.dumps(request(self.service.view, 'GET', path).json()[member])
 
     def job_index(self, run: int, job: str) -> int:
         """The place of a job among those of its run."""
@@ -135,7 +127,9 @@ class Stage:
     def seen(self, run: int, status: str = '') -> None:
         """Waits till the hub shows a run, or its status."""
         token = self.hub.token('watcher', 'read')
-        until(lambda: self._status(run, token) in ((status,) if status else ('queued', 'pending', 'in_progress', 'completed')), what=f'run {run} is {status or "there"}')
+        until(lambda: self._status(run, token) in ((status,) if status
+                                                   else ('queued', 'pending', 'in_progress', 'completed')),
+              what=f'run {run} is {status or "there"}')
 
     def _status(self, run: int, token: str) -> str:
         answer = self.hub.get(f'/api/v3/repos/{self.repository}/actions/runs/{run}', token)

@@ -1,4 +1,4 @@
-"""Pictures for the documentation: `ACTS_HUB_PICTURES=docs/pictures pytest tests/test_pages_pictures.py` writes them there."""
+"""Pictures for docs: `ACTS_HUB_PICTURES=docs/pictures pytest tests/test_pages_pictures.py` writes them there."""
 from __future__ import annotations
 
 import os
@@ -17,20 +17,31 @@ pytestmark = pytest.mark.browser
 MOST = 150_000
 SIZE = (1120, 760)
 PULL: dict[str, Any] = {
-    'ref': 'refs/pull/7/merge', 'ref_name': '7/merge', 'head_ref': 'feature/greetings', 'base_ref': 'main', 'actor': 'octocat',
-    'event': {'pull_request': {'number': 7, 'title': 'Greet people in many languages', 'head': {'sha': 'c0ffee1234567890c0ffee1234567890c0ffee12', 'ref': 'feature/greetings'}}}}
+    'ref': 'refs/pull/7/merge', 'ref_name': '7/merge', 'head_ref': 'feature/greetings', 'base_ref': 'main',
+    'actor': 'octocat',
+    'event': {'pull_request': {'number': 7, 'title': 'Greet people in many languages',
+                               'head': {'sha': 'c0ffee1234567890c0ffee1234567890c0ffee12',
+                                        'ref': 'feature/greetings'}}}}
 DEPLOY = {'deploy': {'runs-on': 'linux', 'steps': [{'run': 'make deploy'}]}}
-TESTS = ['\x1b[1m============================= test session starts ==============================\x1b[0m', 'platform linux -- Python 3.11.2, pytest-7.2.1', 'collected 212 items', '',
-         'tests/test_hello.py \x1b[32m....................................................\x1b[0m [ 24%]', 'tests/test_french.py \x1b[32m........\x1b[0m\x1b[31mF\x1b[0m\x1b[32m......\x1b[0m [ 31%]', '',
-         '\x1b[31m\x1b[1m    def test_salut():\x1b[0m', '\x1b[1m\x1b[31mE       AssertionError: assert "Bonjour" == "Salut"\x1b[0m', '##[warning]The cache of pip was not found',
-         '##[error]tests/test_french.py:41: AssertionError', '\x1b[31m================= \x1b[1m1 failed\x1b[0m\x1b[31m, \x1b[32m211 passed\x1b[0m\x1b[31m in 3.21s ==================\x1b[0m']
+TESTS = ['\x1b[1m============================= test session starts ==============================\x1b[0m',
+         'platform linux -- Python 3.11.2, pytest-7.2.1', 'collected 212 items', '',
+         'tests/test_hello.py \x1b[32m....................................................\x1b[0m [ 24%]',
+         'tests/test_french.py \x1b[32m........\x1b[0m\x1b[31mF\x1b[0m\x1b[32m......\x1b[0m [ 31%]', '',
+         '\x1b[31m\x1b[1m    def test_salut():\x1b[0m',
+         '\x1b[1m\x1b[31mE       AssertionError: assert "Bonjour" == "Salut"\x1b[0m',
+         '##[warning]The cache of pip was not found',
+         '##[error]tests/test_french.py:41: AssertionError',
+         '\x1b[31m================= \x1b[1m1 failed\x1b[0m\x1b[31m, \x1b[32m211 passed\x1b[0m'
+         '\x1b[31m in 3.21s ==================\x1b[0m']
 
 
 def work(leg: Leg, fails: bool) -> None:
     """A leg with steps, as a runner prints them."""
     leg.begin('Set up job').say('Runner ' + leg.name, 'Labels: linux, x64').end()
-    leg.begin('Run actions/checkout@v4').say('##[group]Fetching the repository', 'git fetch --depth=1 origin c0ffee1', '##[endgroup]', 'HEAD is now at c0ffee1').end()
-    leg.begin('Install').say('##[group]pip install -r requirements.txt', *(f'Collecting package-{number}' for number in range(20)), '##[endgroup]').end()
+    leg.begin('Run actions/checkout@v4').say('##[group]Fetching the repository', 'git fetch --depth=1 origin c0ffee1',
+                                             '##[endgroup]', 'HEAD is now at c0ffee1').end()
+    leg.begin('Install').say('##[group]pip install -r requirements.txt',
+                             *(f'Collecting package-{number}' for number in range(20)), '##[endgroup]').end()
     if fails:
         leg.begin('Run pytest').say(*TESTS).end('failure').done('failure')
     else:
@@ -59,14 +70,18 @@ def scene(tmp_path_factory: pytest.TempPathFactory) -> Iterator[tuple[Browser, S
         stage = Stage(service, hub)
         for message in 'Say hello', 'Say it in three languages', 'Write down how to greet':
             finish(stage, stage.admit(message, jobs={'build': JOBS['build']}))
-        finish(stage, stage.admit('Say hello', name='Deploy', path='.github/workflows/deploy.yml', event='workflow_dispatch', jobs=DEPLOY))
+        finish(stage, stage.admit('Say hello', name='Deploy', path='.github/workflows/deploy.yml',
+                                  event='workflow_dispatch', jobs=DEPLOY))
         run = stage.admit('Greet people in many languages', jobs=JOBS, event='pull_request', github=PULL)
         leg = finish(stage, run, {'python': '3.11', 'os': 'linux'})
         assert leg is not None
-        stage.admit('Bump the version to 1.2', name='Deploy', path='.github/workflows/deploy.yml', jobs=DEPLOY, workflow={'concurrency': {'group': 'deploy'}})
+        stage.admit('Bump the version to 1.2', name='Deploy', path='.github/workflows/deploy.yml', jobs=DEPLOY,
+                    workflow={'concurrency': {'group': 'deploy'}})
         stage.claim('linux,x64').begin('Run make deploy').say('copying')
-        stage.admit('Thank the translators', name='Deploy', path='.github/workflows/deploy.yml', jobs=DEPLOY, workflow={'concurrency': {'group': 'deploy'}})
-        last = stage.admit('Try it on Windows too', jobs={'build': {'runs-on': 'windows-latest', 'steps': [{'run': 'make'}]}},
+        stage.admit('Thank the translators', name='Deploy', path='.github/workflows/deploy.yml', jobs=DEPLOY,
+                    workflow={'concurrency': {'group': 'deploy'}})
+        last = stage.admit('Try it on Windows too',
+                           jobs={'build': {'runs-on': 'windows-latest', 'steps': [{'run': 'make'}]}},
                            github={'ref': 'refs/heads/windows', 'ref_name': 'windows'})
         stage.seen(last)
         with chromium() as browser:
@@ -94,7 +109,8 @@ def colours(picture: bytes) -> int:
 
 
 @pytest.mark.parametrize('name, dark', [('runs', False), ('run', False), ('log', True)])
-def test_a_picture_of_a_page(scene: tuple[Browser, Stage, dict[str, str]], tmp_path: pathlib.Path, name: str, dark: bool) -> None:
+def test_a_picture_of_a_page(scene: tuple[Browser, Stage, dict[str, str]], tmp_path: pathlib.Path, name: str,
+                             dark: bool) -> None:
     browser, _, pages = scene
     folder = pathlib.Path(os.environ.get('ACTS_HUB_PICTURES') or tmp_path)
     browser.look(SIZE, dark, still=True)

@@ -1,4 +1,4 @@
-"""What pages say of groups, cancels and attempts, and how they take hostile requests: over the real service and hub, without a browser."""
+"""What pages say of groups, cancels and attempts, and how they take hostile requests: over the real service and hub."""
 from __future__ import annotations
 
 import html
@@ -44,9 +44,11 @@ def test_a_run_says_which_one_took_its_place(stage: Stage) -> None:
     stage.seen(runs[1], 'completed')
     # GitHub: a pending run of a concurrency group is cancelled once another one waits for it
     text = shown(stage, stage.page(runs[1]), token)
-    assert 'Cancelled' in text and re.search(r'A newer run of the concurrency group deploy took its place: +Deploy 3 #3', text)
+    assert 'Cancelled' in text
+    assert re.search(r'A newer run of the concurrency group deploy took its place: +Deploy 3 #3', text)
     assert f'{stage.page(runs[2])}"' in stage.hub.get(stage.page(runs[1]), token).text
-    assert re.search('This run waits for the concurrency group deploy, held by +Deploy #1', shown(stage, stage.page(runs[2]), token))
+    assert re.search('This run waits for the concurrency group deploy, held by +Deploy #1',
+                     shown(stage, stage.page(runs[2]), token))
     assert 'took its place' not in shown(stage, stage.page(runs[0]), token)
 
 
@@ -83,28 +85,35 @@ def test_who_may_not_act_is_refused(stage: Stage, action: str) -> None:
     assert stage.hub.post(path, '', 'acts_wrong', FORM).status == 401
     assert stage.hub.post(path, '', stage.hub.token('reader', 'read'), FORM).status == 403
     assert stage.hub.post(path, '', stage.hub.token('other', 'admin', repositories=('octo/other',)), FORM).status == 404
-    assert stage.hub.post(path, '', stage.hub.token('r', 'runner', prefix='r', labels=('linux',)), FORM).status in (403, 404)
-    assert stage.hub.post(path.replace('octo/hello', 'octo/other'), '', stage.hub.token('mona', 'admin'), FORM).status == 404
+    assert stage.hub.post(path, '', stage.hub.token('r', 'runner', prefix='r', labels=('linux',)),
+                          FORM).status in (403, 404)
+    assert stage.hub.post(path.replace('octo/hello', 'octo/other'), '', stage.hub.token('mona', 'admin'),
+                          FORM).status == 404
     assert stage.hub.get(path, stage.hub.token('mona', 'admin')).status in (404, 405)
     assert stage.service.run(run)['status'] == 'queued'
 
 
 def test_other_repositories_are_not_shown(stage: Stage) -> None:
-    run, secret = stage.admit('Nobody sees me', jobs=NOBODY), stage.admit('Very secret', jobs=NOBODY, repository='octo/secret')
+    run, secret = stage.admit('Nobody sees me',
+                              jobs=NOBODY), stage.admit('Very secret', jobs=NOBODY, repository='octo/secret')
     stage.seen(run)
     token = stage.hub.token('guest', 'read', repositories=('octo/hello',))
     until(lambda: 'Very secret' in stage.hub.get('/', stage.hub.token('all', 'read')).text, what='the secret run')
     for path in '/', '/queue', '/groups', '/runners', '/refused', BASE:
         assert 'secret' not in stage.hub.get(path, token).text.lower(), path
-    for path in '/octo/secret/actions', f'/octo/secret/actions/runs/{secret}', f'{BASE}/runs/{secret}', f'/-/changes?run={secret}', '/-/changes?repository=octo/secret':
+    runs = f'/octo/secret/actions/runs/{secret}', f'{BASE}/runs/{secret}', f'/-/changes?run={secret}'
+    for path in '/octo/secret/actions', '/-/changes?repository=octo/secret', *runs:
         assert stage.hub.get(path, token).status == 404, path
     assert stage.hub.get('/', None, {'Accept': 'text/html'}).headers['Location'].startswith('/sign-in')
 
 
 @pytest.mark.parametrize('path', [
-    f'{BASE}/runs/0', f'{BASE}/runs/999999999', f'{BASE}/runs/-1', f'{BASE}/runs/1e3', f'{BASE}/runs/' + '9' * 400, f'{BASE}/runs/%D9%A1', f'{BASE}/runs/1/attempts/0',
-    f'{BASE}/runs/1/attempts/2', f'{BASE}/runs/1/attempts/x', f'{BASE}/runs/1/job/1', f'{BASE}/runs/1/job/' + '9' * 30, f'{BASE}/runs/1/job/67174400/lines', f'{BASE}/runs/1/artifacts/1',
-    f'{BASE}/runs/1/artifacts/..%2F..%2Fledger.sqlite', f'{BASE}/workflows/..%2F..%2Fhub.toml', f'{BASE}/workflows/none.yml', '/-/static/..%2Fsite.py', '/-/static/hub.py', '/octo/none/actions',
+    f'{BASE}/runs/0', f'{BASE}/runs/999999999', f'{BASE}/runs/-1', f'{BASE}/runs/1e3', f'{BASE}/runs/' + '9' * 400,
+    f'{BASE}/runs/%D9%A1', f'{BASE}/runs/1/attempts/0',
+    f'{BASE}/runs/1/attempts/2', f'{BASE}/runs/1/attempts/x', f'{BASE}/runs/1/job/1', f'{BASE}/runs/1/job/' + '9' * 30,
+    f'{BASE}/runs/1/job/67174400/lines', f'{BASE}/runs/1/artifacts/1',
+    f'{BASE}/runs/1/artifacts/..%2F..%2Fledger.sqlite', f'{BASE}/workflows/..%2F..%2Fhub.toml',
+    f'{BASE}/workflows/none.yml', '/-/static/..%2Fsite.py', '/-/static/hub.py', '/octo/none/actions',
     '/%00/%00/actions', '/-/changes?run=0', f'{BASE}/runs/1/job/67174400/raw'])
 def test_addresses_of_nothing_are_not_found(stage: Stage, path: str) -> None:
     answer = stage.hub.get(path, stage.hub.token('mona', 'admin'))
@@ -112,7 +121,8 @@ def test_addresses_of_nothing_are_not_found(stage: Stage, path: str) -> None:
     assert 'Traceback' not in answer.text and 'fault' not in answer.text.lower().replace('default', '')
 
 
-@pytest.mark.parametrize('query', ['before=-1', 'before=' + '9' * 50, 'after=x', 'q=' + '%22' * 900, 'q=%00%FF', 'status=%3Cscript%3E', 'q=' + 'is:' * 100, 'did=cancel&did=x', 'did=<script>',
+@pytest.mark.parametrize('query', ['before=-1', 'before=' + '9' * 50, 'after=x', 'q=' + '%22' * 900, 'q=%00%FF',
+                                   'status=%3Cscript%3E', 'q=' + 'is:' * 100, 'did=cancel&did=x', 'did=<script>',
                                    'branch=' + 'x' * 5000, 'q=%E2%80%AE<script>alert(1)</script>'])
 def test_queries_of_any_form_are_answered(stage: Stage, query: str) -> None:
     for path in BASE, '/queue', '/runners', '/groups', '/refused', '/', f'{BASE}/runs/1/job/67174400':
@@ -120,7 +130,8 @@ def test_queries_of_any_form_are_answered(stage: Stage, query: str) -> None:
         assert answer.status in (200, 404) and '<script>' not in answer.text and '\u202e' not in answer.text, path
 
 
-@pytest.mark.parametrize('back', ['//evil.example', 'https://evil.example/', '/\\evil.example', 'javascript:alert(1)', '/a\r\nX: y', '', '/' + 'x' * 5000])
+@pytest.mark.parametrize('back', ['//evil.example', 'https://evil.example/', '/\\evil.example', 'javascript:alert(1)',
+                                  '/a\r\nX: y', '', '/' + 'x' * 5000])
 def test_no_form_leads_to_another_site(stage: Stage, back: str) -> None:
     answer = stage.hub.post('/-/theme', urlencode({'back': back, 'theme': 'dark'}), None, FORM)
     assert (answer.status, answer.headers['Location']) == (303, '/')
@@ -142,7 +153,8 @@ def test_static_files_may_be_kept_once_their_address_says_their_content(stage: S
         found = re.search(rf'/-/static/{name}\?[0-9a-f]+', page)
         assert found is not None
         answer = stage.hub.get(found[0])
-        assert answer.status == 200 and 'immutable' in answer.headers['Cache-Control'] and answer.headers['X-Content-Type-Options'] == 'nosniff'
+        assert answer.status == 200 and 'immutable' in answer.headers['Cache-Control']
+        assert answer.headers['X-Content-Type-Options'] == 'nosniff'
         assert 'immutable' not in stage.hub.get(f'/-/static/{name}?old').headers['Cache-Control']
 
 
@@ -159,21 +171,26 @@ def test_annotations_summaries_and_artifacts_of_a_run(stage: Stage) -> None:
     stage.hub.kill()     # what the gateway keeps is written while nobody else writes
     database = Database(stage.hub.state / 'ledger.sqlite')
     database.open()
-    marks = {'annotations': [{'annotation_level': level, 'message': f'{level} <b>x</b>', 'title': None, 'path': 'a.py', 'start_line': 7} for level in ('notice', 'failure', 'warning')],
+    marks = {'annotations': [{'annotation_level': level, 'message': f'{level} <b>x</b>', 'title': None, 'path': 'a.py',
+                              'start_line': 7} for level in ('notice', 'failure', 'warning')],
              'summaries': ['# All <script>well</script>']}
     NoteStore(database).set(run, 1, 'marks', 'build/0', marks)
     kept = Retention()
-    upload = ArtifactStore(stage.hub.state / 'artifacts', database, kept.artifact_bytes, kept.artifacts_bytes_a_run, kept.artifacts_days).begin(run, 1, 'report 1; é')
+    upload = ArtifactStore(stage.hub.state / 'artifacts', database, kept.artifact_bytes, kept.artifacts_bytes_a_run,
+                           kept.artifacts_days).begin(run, 1, 'report 1; é')
     upload.write(made.getvalue())
     artifact = upload.finish()
     database.close()
     stage.hub.start()
     stage.seen(other)
     text = shown(stage, stage.page(run), token)
-    assert text.index('failure <b>x</b>') < text.index('warning <b>x</b>') < text.index('notice <b>x</b>') and 'a.py :7' in text
+    assert text.index('failure <b>x</b>') < text.index('warning <b>x</b>') < text.index('notice <b>x</b>')
+    assert 'a.py :7' in text
     assert '# All <script>well</script>' in text and 'report 1; é' in text
     assert '<script>well' not in stage.hub.get(stage.page(run), token).text
     found = stage.hub.get(f'{stage.page(run)}/artifacts/{artifact.id}', token)
-    assert found.body == made.getvalue() and found.headers['Content-Disposition'] == 'attachment; filename="report_1___.zip"'
-    assert stage.hub.get(f'{stage.page(run)}/artifacts/{artifact.id}', stage.hub.token('other', 'read', repositories=('octo/other',))).status == 404
+    assert found.body == made.getvalue()
+    assert found.headers['Content-Disposition'] == 'attachment; filename="report_1___.zip"'
+    assert stage.hub.get(f'{stage.page(run)}/artifacts/{artifact.id}',
+                         stage.hub.token('other', 'read', repositories=('octo/other',))).status == 404
     assert stage.hub.get(f'{stage.page(other)}/artifacts/{artifact.id}', token).status == 404

@@ -22,8 +22,10 @@ def full(standing_hub: Stand) -> Iterator[Stand]:
     before, hub = standing_hub.mirror, standing_hub.hub
     mirror = Mirror(ViewPort('127.0.0.1:1'), HookPort('127.0.0.1:1'), hub.database)
     for number in range(1, COUNT + 1):
-        mirror.put(run_of(number, branch=('main', 'topic/a', 'release')[number % 3], actor=('mona', 'hubot')[number % 5 == 0],
-                          conclusion=('success', 'success', 'failure')[number % 3], path=f'.github/workflows/{("ci", "deploy", "nightly")[number % 3]}.yml'))
+        mirror.put(run_of(number, branch=('main', 'topic/a', 'release')[number % 3],
+                          actor=('mona', 'hubot')[number % 5 == 0],
+                          conclusion=('success', 'success', 'failure')[number % 3],
+                          path=f'.github/workflows/{("ci", "deploy", "nightly")[number % 3]}.yml'))
     mirror.is_whole = True
     hub.mirror = mirror
     yield standing_hub
@@ -54,8 +56,10 @@ def test_pages_keep_over_all_runs(full: Stand) -> None:
 
 
 def test_a_page_takes_little_of_the_processor(full: Stand) -> None:
-    for path, limit in (('/octo/hello/actions', 60), ('/octo/hello/actions?before=10000', 60), ('/octo/hello/actions?q=is:failure', 90), ('/octo/hello/actions?q=Change+777', 250),
-                        ('/octo/hello/actions?branch=nothing-has-this', 250), ('/octo/hello/actions/workflows/deploy.yml', 60), ('/', 60)):
+    for path, limit in (('/octo/hello/actions', 60), ('/octo/hello/actions?before=10000', 60),
+                        ('/octo/hello/actions?q=is:failure', 90), ('/octo/hello/actions?q=Change+777', 250),
+                        ('/octo/hello/actions?branch=nothing-has-this', 250),
+                        ('/octo/hello/actions/workflows/deploy.yml', 60), ('/', 60)):
         page(full, path)
         times = []
         for _ in range(8):

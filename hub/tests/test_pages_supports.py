@@ -34,7 +34,8 @@ def test_a_service_that_knows_the_paths_supports_the_commands() -> None:
         await runner.cleanup()
         return found
     assert asyncio.run(trial()) == [True, False, True, False]
-    assert asked == ['GET /runs/1/force-cancel', 'GET /runs/1/attempts/2/failed-jobs']     # asked once, and never what would be an entry
+    assert asked == ['GET /runs/1/force-cancel',
+                     'GET /runs/1/attempts/2/failed-jobs']     # asked once, and never what would be an entry
 
 
 def test_the_real_service_is_asked_without_an_entry(service: Service) -> None:
@@ -46,5 +47,6 @@ def test_the_real_service_is_asked_without_an_entry(service: Service) -> None:
             await hooks.close()
     run = service.admit()
     found = asyncio.run(trial())
-    posted = [service.post(f'/runs/{run}/force-cancel').status, service.post(f'/runs/{run}/attempts/2/failed-jobs').status]
+    posted = [service.post(f'/runs/{run}/force-cancel').status,
+              service.post(f'/runs/{run}/attempts/2/failed-jobs').status]
     assert found == [status not in (404, 405) for status in posted]

@@ -14,4 +14,5 @@ def routes(hub: Hub) -> list[web.RouteDef]:
     from . import actions, groups, live, log, queue, refused, run, runners, runs, signin, site
     pages = site.Site(hub)
     hub.fault_page = pages.fault
-    return [route for part in (site, signin, live, queue, runners, groups, refused, actions, log, run, runs) for route in part.routes(pages)]
+    return [route for part in (site, signin, live, queue, runners, groups, refused, actions, log, run, runs)
+            for route in part.routes(pages)]

@@ -16,7 +16,8 @@ from .site import Site, number_of
 Act = Callable[[Site, Run, Identity], Awaitable[Reply]]
 
 
-async def acted(site: Site, request: web.Request, name: str, act: Act, seen: Callable[[Run], bool]) -> web.StreamResponse:
+async def acted(site: Site, request: web.Request, name: str, act: Act,
+                seen: Callable[[Run], bool]) -> web.StreamResponse:
     """Does what a button says, waits till it is seen, and goes back to the run."""
     run = run_of(site, request)
     identity = require(request, Right.WRITE, run.row.repository)
@@ -68,7 +69,8 @@ async def rerun_failed(site: Site, request: web.Request) -> web.StreamResponse:
     return await _again(site, request, 'rerun-failed', site.hub.hooks.retry)
 
 
-async def _again(site: Site, request: web.Request, name: str, command: Callable[[int, int], Awaitable[Reply]]) -> web.StreamResponse:
+async def _again(site: Site, request: web.Request, name: str,
+                 command: Callable[[int, int], Awaitable[Reply]]) -> web.StreamResponse:
     before = run_of(site, request).row.attempt
 
     async def act(site: Site, run: Run, identity: Identity) -> Reply:
@@ -95,5 +97,6 @@ async def approve(site: Site, request: web.Request) -> web.StreamResponse:
 def routes(site: Site) -> list[web.RouteDef]:
     """Buttons of a run."""
     base = '/{owner}/{repo}/actions/runs/{run}'
-    found = (('cancel', cancel), ('force-cancel', force_cancel), ('rerun', rerun), ('rerun-failed', rerun_failed), ('approve', approve))
+    found = (('cancel', cancel), ('force-cancel', force_cancel), ('rerun', rerun), ('rerun-failed', rerun_failed),
+             ('approve', approve))
     return [site.post(f'{base}/{name}', handler) for name, handler in found]

@@ -7,12 +7,14 @@ from markupsafe import Markup, escape
 
 from .texts import seen
 
-_SEQUENCE = re.compile('\x1b(?:\\[([0-?]*)[ -/]*([@-~])|\\][^\x07\x1b]*(?:\x07|\x1b\\\\)?|[@-Z\\\\^_]|[()*+][A-Za-z0-9])')
+_SEQUENCE = re.compile('\x1b(?:\\[([0-?]*)[ -/]*([@-~])|\\][^\x07\x1b]*(?:\x07|\x1b\\\\)?'
+                       '|[@-Z\\\\^_]|[()*+][A-Za-z0-9])')
 _LINK = re.compile(r'https?://[^\s<>"\'`\x1b]{1,2000}[^\s<>"\'`.,;:!?)\]}\x1b]')
 _BASIC = ('black', 'red', 'green', 'yellow', 'blue', 'magenta', 'cyan', 'white')
 # The sixteen colours of xterm, to find the nearest for one of 256 or 16 million.
 _RGB = ((0, 0, 0), (205, 0, 0), (0, 205, 0), (205, 205, 0), (0, 0, 238), (205, 0, 205), (0, 205, 205), (229, 229, 229),
-        (127, 127, 127), (255, 0, 0), (0, 255, 0), (255, 255, 0), (92, 92, 255), (255, 0, 255), (0, 255, 255), (255, 255, 255))
+        (127, 127, 127), (255, 0, 0), (0, 255, 0), (255, 255, 0), (92, 92, 255), (255, 0, 255), (0, 255, 255),
+        (255, 255, 255))
 _ON = {1: 'bold', 2: 'faint', 3: 'italic', 4: 'underline', 9: 'struck'}
 _OFF = {22: ('bold', 'faint'), 23: ('italic',), 24: ('underline',), 29: ('struck',)}
 
@@ -61,7 +63,8 @@ class Style:
         return 1
 
     def _colour(self, colour: int | None, is_back: bool) -> None:
-        name = '' if colour is None else ('bg-' if is_back else 'fg-') + ('bright-' if colour > 7 else '') + _BASIC[colour % 8]
+        kind, bright = 'bg-' if is_back else 'fg-', 'bright-' if colour is not None and colour > 7 else ''
+        name = '' if colour is None else f'{kind}{bright}{_BASIC[colour % 8]}'
         if is_back:
             self.back = name
         else:

@@ -45,14 +45,15 @@ async def form_of(site: Site, request: web.Request, repository: str, path: str, 
     file = (await site.files.of(repository)).get(path)
     if file is None or file.inputs is None:
         return None
-    fields = tuple(Field(one.field, one.kind, one.label, one.is_required, one.options, one.default if sent is None else str(sent.get(one.field, '')))
+    fields = tuple(Field(one.field, one.kind, one.label, one.is_required, one.options,
+                         one.default if sent is None else str(sent.get(one.field, '')))
                    for one in file.inputs)
     ref = str(sent.get('ref', '')) if sent else site.hub.config.default_branch(repository)
     return Form(f'{workflow_link(repository, path)}/dispatch', ref, fields, tuple(faults))
 
 
 async def dispatched(site: Site, request: web.Request, repository: str, path: str) -> tuple[Mapping[str, Any], str]:
-    """Starts a workflow as its form says; gives what was sent, and why it was not started. Once it is, it goes on at its run."""
+    """Starts a workflow as its form says, and goes on at its run; gives what was sent, and why it was not started."""
     identity = require(request, Right.WRITE, repository)
     sent = await site.check_form(request)
     file = (await site.files.of(repository)).get(path)

@@ -1,4 +1,4 @@
-"""The workflows in the default branch of a repository's mirror: their names, and the inputs of those that can be started by hand."""
+"""The workflows in the default branch of a repository's mirror: their names, and the inputs of those for hands."""
 from __future__ import annotations
 
 import asyncio

@@ -16,9 +16,11 @@ from .texts import cleaned
 PAGE = 25
 MOST_WORDS, MOST_TEXT = 20, 300
 FIELDS = ('workflow', 'branch', 'event', 'status', 'actor')
-STATUSES = (('queued', 'Queued'), ('in_progress', 'In progress'), ('waiting', 'Waiting'), ('completed', 'Completed'), ('success', 'Success'),
+STATUSES = (('queued', 'Queued'), ('in_progress', 'In progress'), ('waiting', 'Waiting'), ('completed', 'Completed'),
+            ('success', 'Success'),
             ('failure', 'Failure'), ('cancelled', 'Cancelled'), ('skipped', 'Skipped'))
-_ALIASES = {'failed': 'failure', 'canceled': 'cancelled', 'running': 'in_progress', 'pending': 'waiting', 'succeeded': 'success'}
+_ALIASES = {'failed': 'failure', 'canceled': 'cancelled', 'running': 'in_progress', 'pending': 'waiting',
+            'succeeded': 'success'}
 _TOKEN = re.compile(r'(?:(workflow|branch|event|is|status|conclusion|actor):)?(?:"([^"]*)"|(\S+))')
 
 
@@ -75,8 +77,10 @@ def tests_of(wanted: Wanted, state_of: Callable[[Run], str]) -> list[Callable[[R
     tests: list[Callable[[Run], bool]] = []
     if wanted.status:
         tests.append(_status_test(wanted.status, state_of))
-    for value, text_of in ((wanted.event, lambda run: run.row.event), (wanted.branch, lambda run: run.facts.branch or ''),
-                           (wanted.actor, lambda run: run.facts.actor or ''), (wanted.workflow, lambda run: f'{workflow_of(run)}\n{run.row.path}')):
+    for value, text_of in ((wanted.event, lambda run: run.row.event),
+                           (wanted.branch, lambda run: run.facts.branch or ''),
+                           (wanted.actor, lambda run: run.facts.actor or ''),
+                           (wanted.workflow, lambda run: f'{workflow_of(run)}\n{run.row.path}')):
         if value:
             tests.append(_part_test(value.casefold(), text_of))
     for word in wanted.words:
@@ -88,7 +92,8 @@ def searched(run: Run) -> str:
     """The text of a run that words are searched in."""
     facts = run.facts
     pull = f'#{facts.pull_number} {facts.pull_title or ""}' if facts.pull_number else ''
-    return '\n'.join((title_of(run), workflow_of(run), f'#{run.row.number} {run.row.run}', facts.sha or '', facts.branch or '', facts.actor or '', pull))
+    return '\n'.join((title_of(run), workflow_of(run), f'#{run.row.number} {run.row.run}', facts.sha or '',
+                      facts.branch or '', facts.actor or '', pull))
 
 
 def _part_test(part: str, text_of: Callable[[Run], str]) -> Callable[[Run], bool]:
@@ -112,8 +117,9 @@ class Page:
     newer: int | None
 
 
-def page_of(runs: Runs, tests: Sequence[Callable[[Run], bool]], before: int | None, after: int | None, size: int = PAGE) -> Page:
-    """The newest runs that pass, those below the id `before`, or those above the id `after`. Runs come with ids that ascend."""
+def page_of(runs: Runs, tests: Sequence[Callable[[Run], bool]], before: int | None, after: int | None,
+            size: int = PAGE) -> Page:
+    """The newest runs that pass, those below the id `before`, or those above the id `after`; ids ascend."""
     def passes(run: Run) -> bool:
         return all(test(run) for test in tests)
 
@@ -129,7 +135,8 @@ def page_of(runs: Runs, tests: Sequence[Callable[[Run], bool]], before: int | No
     found = list(itertools.islice(filter(passes, _downwards(runs, last)), size + 1))
     has_newer = before is not None and any(passes(run) for run in _downwards(runs, len(runs), last))
     chosen = tuple(found[:size])
-    return Page(chosen, chosen[-1].row.run if len(found) > size else None, (chosen[0].row.run if chosen else (before or 1) - 1) if has_newer else None)
+    return Page(chosen, chosen[-1].row.run if len(found) > size else None,
+                (chosen[0].row.run if chosen else (before or 1) - 1) if has_newer else None)
 
 
 def _downwards(runs: Sequence[Run], last: int, first: int = 0) -> Iterable[Run]:

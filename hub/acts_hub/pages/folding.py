@@ -7,7 +7,8 @@ from collections.abc import Iterable, Iterator
 
 MOST_SHOWN = 4_000  # characters of a line on a page; the file has all
 _TIME = re.compile(r'(\d{4}-\d\d-\d\dT\d\d:\d\d:\d\d(?:\.\d+)?Z) ?')
-_COMMAND = re.compile(r'(?:::|##\[)(group|endgroup|error|warning|notice|debug|command|section)(?: ([^\]:]*(?:[:\]](?![:\]])[^\]:]*)*))?(?:::|\])(.*)', re.DOTALL)
+_COMMAND = re.compile(r'(?:::|##\[)(group|endgroup|error|warning|notice|debug|command|section)'
+                      r'(?: ([^\]:]*(?:[:\]](?![:\]])[^\]:]*)*))?(?:::|\])(.*)', re.DOTALL)
 _ESCAPES = (('%0D', '\r'), ('%0A', '\n'), ('%3A', ':'), ('%2C', ','), ('%25', '%'))
 
 

@@ -60,7 +60,7 @@ class Edge:
 
 @dataclasses.dataclass(frozen=True)
 class Drawing:
-    """A graph that is laid out. One that is long keeps its size, and its frame scrolls; another one shrinks into its frame."""
+    """A graph that is laid out. A long one keeps its size, and its frame scrolls; another shrinks into its frame."""
 
     width: int
     height: int
@@ -75,7 +75,8 @@ def levels(nodes: Sequence[Node]) -> dict[str, int]:
     found: dict[str, int] = {}
     left = dict(by_id)
     while left:
-        ready = [node for node in left.values() if not any(need in left for need in node.needs if need in by_id and need != node.id)]
+        ready = [node for node in left.values()
+                 if not any(need in left for need in node.needs if need in by_id and need != node.id)]
         for node in ready or list(left.values()):
             found[node.id] = 1 + max((found[need] for need in node.needs if need in found), default=-1)
         for node in ready or list(left.values()):
@@ -158,7 +159,8 @@ def _edge(source: Place, target: Place, gap: int) -> Edge:
     else:
         turn = min(10, abs(y2 - y1) // 2)
         down = turn if y2 > y1 else -turn
-        path = f'M{x1} {y1}H{bend - turn}Q{bend} {y1} {bend} {y1 + down}V{y2 - down}Q{bend} {y2} {bend + turn} {y2}H{x2}'
+        path = (f'M{x1} {y1}H{bend - turn}Q{bend} {y1} {bend} {y1 + down}'
+                f'V{y2 - down}Q{bend} {y2} {bend + turn} {y2}H{x2}')
     return Edge(path, source.node.id, target.node.id, source.node.state == 'success')
 
 
@@ -168,7 +170,8 @@ def narrow(nodes: Sequence[Node]) -> Drawing:
     needed = {need for node in nodes for need in direct(node, nodes)}
     lanes = {node.id: place for place, node in enumerate(node for node in order if node.id in needed)}
     left = MARGIN + LANE * min(len(lanes), 8) + 6
-    places = {node.id: Place(node, left, MARGIN + place * STEP, 334 - left, STEP - 8, (), len(node.legs) if node.is_matrix else 0)
+    places = {node.id: Place(node, left, MARGIN + place * STEP, 334 - left, STEP - 8, (),
+                             len(node.legs) if node.is_matrix else 0)
               for place, node in enumerate(order)}
     edges = []
     for node in order:

@@ -44,7 +44,8 @@ def _member(site: Site, holder: Holder, wholes: Mapping[int, Whole]) -> Member:
     for index, job in enumerate(whole.jobs if whole else ()):
         for leg in job.legs:
             if (job.id, leg.index) == (holder.job, holder.leg):
-                return Member(title_of(run), leg_link(run, run.row.attempt, index, leg.index), f'{leg_name(run, job, leg)}, {about}', run.started_at)
+                return Member(title_of(run), leg_link(run, run.row.attempt, index, leg.index),
+                              f'{leg_name(run, job, leg)}, {about}', run.started_at)
     return Member(title_of(run), run_link(run), f'{holder.job}, {about}', run.started_at)
 
 
@@ -67,7 +68,8 @@ async def groups(site: Site, request: web.Request) -> web.StreamResponse:
             (row.holders if one.state == 'in_progress' else row.waiting).append(_member(site, one, wholes))
         rows.append(row)
     rows.sort(key=lambda row: (not row.waiting, row.repository.casefold(), row.group))
-    return site.page(request, 'groups.html', title='Concurrency groups', active='groups', q=q, rows=rows, count=len(found),
+    return site.page(request, 'groups.html', title='Concurrency groups', active='groups', q=q, rows=rows,
+                     count=len(found),
                      left=max(0, len(found) - MOST_GROUPS), changes='/-/changes')
 
 

@@ -1,4 +1,4 @@
-"""The form of `workflow_dispatch`: its fields, from the inputs that a workflow names. What is sent is judged where it starts the run."""
+"""The form of `workflow_dispatch`: a field for each input. What is sent is judged where it starts the run."""
 from __future__ import annotations
 
 from collections.abc import Mapping, Sequence

@@ -66,8 +66,8 @@ class LogFile:
         """Counts the lines of a piece; a mark is set behind a line end where one is due."""
         count = piece.count(b'\n')
         end = piece.rfind(b'\n') + 1
-        is_due = self._seen_lines + count - self._lines[-1] >= LINES_A_MARK or self._seen + end - self._offsets[-1] >= BYTES_A_MARK
-        if end and is_due:
+        lines, length = self._seen_lines + count - self._lines[-1], self._seen + end - self._offsets[-1]
+        if end and (lines >= LINES_A_MARK or length >= BYTES_A_MARK):
             self._lines.append(self._seen_lines + count)
             self._offsets.append(self._seen + end)
         self._seen += len(piece)
@@ -78,10 +78,11 @@ class LogFile:
         with self.lock:
             self._grow()
             mark = bisect.bisect_right(self._offsets, offset) - 1
-            return self._lines[mark] + sum(piece.count(b'\n') for piece in self._pieces(self._offsets[mark], min(offset, self._seen)))
+            return self._lines[mark] + sum(piece.count(b'\n')
+                                           for piece in self._pieces(self._offsets[mark], min(offset, self._seen)))
 
     def window(self, first: int, count: int, end: int) -> list[bytes]:
-        """The lines from `first` on, counted from 0, that begin before the offset `end`; fewer where they are very long."""
+        """The lines from `first` on, counted from 0, that begin before `end`; fewer where they are very long."""
         with self.lock:
             self._grow()
             mark = bisect.bisect_right(self._lines, first) - 1

@@ -13,7 +13,7 @@ from ..access.identity import Right, require
 from .site import HEADERS, Site, number_of
 
 MOST_STREAMS, MOST_OF_A_TOKEN = 2_000, 200
-BEAT, LIFE, SLOW = 15, 600, 20  # seconds: between two signs of life, of one stream, and that a client may take for one message
+BEAT, LIFE, SLOW = 15, 600, 20  # seconds: between two signs of life, of a stream, and for one message
 MOST_IDS = 100
 
 
@@ -47,7 +47,8 @@ async def stream_of(site: Site, request: web.Request) -> AsyncIterator[Stream]:
         raise web.HTTPServiceUnavailable(text='Too many pages are open.')
     site.streams[identity.token_id] += 1
     try:
-        response = web.StreamResponse(headers={**HEADERS, 'Content-Type': 'text/event-stream; charset=utf-8', 'X-Accel-Buffering': 'no'})
+        response = web.StreamResponse(headers={**HEADERS, 'Content-Type': 'text/event-stream; charset=utf-8',
+                                               'X-Accel-Buffering': 'no'})
         await response.prepare(request)
         await response.write(b'retry: 1000\n\n')
         yield Stream(response)

@@ -24,7 +24,7 @@ from .whole import LegRow, Shown, awaited_jobs, buttons_of, crumbs_of, leg_of, n
 
 PAUSE = 0.15  # seconds between two looks at a log that grows
 GRACE = 1.5  # seconds in which the last lines come after the end of the leg
-MOST_SENT, MOST_BEHIND = 1 << 18, 4 << 20  # bytes of one message, and after which lines are left out for a reader who is too slow
+MOST_SENT, MOST_BEHIND = 1 << 18, 4 << 20  # bytes of a message, and after which lines are left out
 MOST_HITS = 200
 PIECE = 1 << 18
 
@@ -109,7 +109,7 @@ def steps_in(site: Site, file: LogFile, is_over: bool) -> list[steps.Step]:
 
 
 def chosen_step(every: list[steps.Step], asked: int | None) -> steps.Step | None:
-    """The step that is open at first: the one that is asked for, else the first that failed, else the one that goes on, else the last."""
+    """The step that is open at first: one that is asked for, the first that failed, one that goes on, or the last."""
     if asked is not None:
         return next((step for step in every if step.number == asked), None)
     failed = [step for step in every if step.state == 'failure']
@@ -122,15 +122,20 @@ async def log_page(site: Site, request: web.Request) -> web.StreamResponse:
     found, row = await leg_shown(site, request)
     file, is_over = file_of(site, found, row), states.is_over(row.state)
     asked, line, q = number_of(request.query, 'step'), number_of(request.query, 'line'), words_of(request.query)
-    read = await asyncio.to_thread(_read, site, file, is_over, asked, line, q) if file else Read((), Position(), (), False)
+    read = Read((), Position(), (), False)
+    if file is not None:
+        read = await asyncio.to_thread(_read, site, file, is_over, asked, line, q)
     base = row.link
     events = '' if is_over else f'{base}/events?from={read.position}'
     job = JobHead(row.name, base, row.sign, row.begun, row.ended, row.runner, row.labels, row.why, events)
     head = found.head
     return site.page(
-        request, 'log.html', title=f'{row.name} · {head.title}', active='repositories', crumbs=[*crumbs_of(found), (row.name, '')], run=head,
-        can=await buttons_of(site, request, found), approvals=awaited_jobs(site, found), nodes=nodes_of(found, now()), job_link=base, job=job, steps=read.steps, q=q, hits=read.hits,
-        hits_left=read.has_more_hits, no_log=_no_log(row), is_log=not is_over, changes='' if not is_over and file else f'/-/changes?run={head.id}')
+        request, 'log.html', title=f'{row.name} · {head.title}', active='repositories',
+        crumbs=[*crumbs_of(found), (row.name, '')], run=head,
+        can=await buttons_of(site, request, found), approvals=awaited_jobs(site, found), nodes=nodes_of(found, now()),
+        job_link=base, job=job, steps=read.steps, q=q, hits=read.hits,
+        hits_left=read.has_more_hits, no_log=_no_log(row), is_log=not is_over,
+        changes='' if not is_over and file else f'/-/changes?run={head.id}')
 
 
 @dataclass(frozen=True)
@@ -223,7 +228,8 @@ async def raw(site: Site, request: web.Request) -> web.StreamResponse:
     if file is None:
         raise web.HTTPNotFound(text='This leg has no log.')
     name = f'{re.sub(r"[^A-Za-z0-9_.-]+", "_", row.name)[:80]}-{found.head.id}-{found.attempt}.txt'
-    answer = web.StreamResponse(headers={**HEADERS, 'Content-Type': 'text/plain; charset=utf-8', 'Content-Disposition': f'attachment; filename="{name}"'})
+    answer = web.StreamResponse(headers={**HEADERS, 'Content-Type': 'text/plain; charset=utf-8',
+                                         'Content-Disposition': f'attachment; filename="{name}"'})
     await answer.prepare(request)
     offset = 0
     while piece := await asyncio.to_thread(file.read, offset, PIECE):
@@ -297,7 +303,8 @@ def _live_html(step: int, data: bytes, first: int, group: int | None) -> tuple[s
 async def events(site: Site, request: web.Request) -> web.StreamResponse:
     """Lines as they come, till the leg has ended."""
     found, row = await leg_shown(site, request)
-    sent = position_of(request.headers.get('Last-Event-ID', '')) or position_of(request.query.get('from', '')) or Position()
+    named = request.headers.get('Last-Event-ID', ''), request.query.get('from', '')
+    sent = position_of(named[0]) or position_of(named[1]) or Position()
     async with site.hub.mirror.watch() as watcher, stream_of(site, request) as stream:
         follower = Follower(site, found, row, stream, sent)
         follower.is_over = states.is_over(row.state)
@@ -330,4 +337,5 @@ async def events(site: Site, request: web.Request) -> web.StreamResponse:
 def routes(site: Site) -> list[web.RouteDef]:
     """Logs of legs."""
     base = '/{owner}/{repo}/actions/runs/{run}/job/{job}'
-    return [site.get(base, log_page), site.get(f'{base}/lines', lines), site.get(f'{base}/raw', raw), site.stream(f'{base}/events', events)]
+    return [site.get(base, log_page), site.get(f'{base}/lines', lines), site.get(f'{base}/raw', raw),
+            site.stream(f'{base}/events', events)]

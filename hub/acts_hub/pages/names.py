@@ -17,7 +17,9 @@ def leg_name(run: Run, job: Job, leg: Leg) -> str:
 
 def job_name(job: Job) -> str:
     """The name of a job with all its legs."""
-    return re.sub(r'\s*\(?\s*\$\{\{.*?\}\}\s*\)?', '', job.name).strip(' ,-') or job.id if '${{' in job.name else job.name
+    if '${{' not in job.name:
+        return job.name
+    return re.sub(r'\s*\(?\s*\$\{\{.*?\}\}\s*\)?', '', job.name).strip(' ,-') or job.id
 
 
 def is_matrix(job: Job) -> bool:
@@ -26,7 +28,7 @@ def is_matrix(job: Job) -> bool:
 
 
 def title_of(run: Run) -> str:
-    """The title of a run: its run-name, the title of its pull request, the first line of its commit, or its workflow."""
+    """The title of a run: its run-name, that of its pull request, the first line of its commit, or its workflow."""
     facts = run.facts
     return facts.run_name or facts.title or workflow_of(run)
 

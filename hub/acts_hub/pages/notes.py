@@ -9,7 +9,8 @@ from .site import Site
 from .whole import LegRow, Shown
 
 MOST_ANNOTATIONS, MOST_SUMMARIES, MOST_TEXT = 50, 20, 20_000
-SIGNS = {'failure': states.Sign('failure', 'Error'), 'warning': states.Sign('stopping', 'Warning'), 'notice': states.Sign('queued', 'Notice')}
+SIGNS = {'failure': states.Sign('failure', 'Error'), 'warning': states.Sign('stopping', 'Warning'),
+         'notice': states.Sign('queued', 'Notice')}
 
 
 @dataclass(frozen=True)
@@ -47,11 +48,13 @@ def annotations_of(site: Site, found: Shown) -> list[Annotation]:
 def _annotation(row: LegRow, given: dict[str, Any]) -> Annotation:
     sign = SIGNS.get(str(given.get('annotation_level')), SIGNS['notice'])
     line = given.get('start_line')
-    return Annotation(sign, str(given.get('title') or sign.words), str(given.get('message') or '')[:MOST_TEXT], str(given.get('path') or ''),
+    return Annotation(sign, str(given.get('title') or sign.words), str(given.get('message') or '')[:MOST_TEXT],
+                      str(given.get('path') or ''),
                       line if isinstance(line, int) else None, row.name, row.link)
 
 
 def summaries_of(site: Site, found: Shown) -> list[Summary]:
     """The summaries of an attempt."""
-    rows = [Summary(row.name, row.link, text[:MOST_TEXT]) for row in found.legs if (text := site.summary(found.run.id, found.attempt, row.job.id, row.index))]
+    rows = [Summary(row.name, row.link, text[:MOST_TEXT]) for row in found.legs
+            if (text := site.summary(found.run.id, found.attempt, row.job.id, row.index))]
     return rows[:MOST_SUMMARIES]

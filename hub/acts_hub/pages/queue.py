@@ -49,10 +49,12 @@ async def queue(site: Site, request: web.Request) -> web.StreamResponse:
     """The page of the queue."""
     identity = signed_in(request)
     runs = site.hub.mirror.runs
-    ready = [one for one in await site.hub.view.queue() if one.run in runs and identity.may(Right.READ, runs[one.run].row.repository)]
+    ready = [one for one in await site.hub.view.queue() if one.run in runs
+             and identity.may(Right.READ, runs[one.run].row.repository)]
     facts = await site.facts(('group', 'runner'))
     counts = Counter((own_labels(one.labels), runs[one.run].row.repository) for one in ready)
-    labels = [Labels(asked, count, able(asked, repository, facts)) for (asked, repository), count in counts.most_common(MOST_LABELS)]
+    labels = [Labels(asked, count, able(asked, repository, facts)) for (asked, repository),
+              count in counts.most_common(MOST_LABELS)]
     rows: list[Waiting] = []
     wholes = await site.wholes(list(dict.fromkeys(one.run for one in ready))[:MOST_RUNS])
     for number, whole in wholes.items():
@@ -62,13 +64,17 @@ async def queue(site: Site, request: web.Request) -> web.StreamResponse:
                 approved = site.is_approved(number, run.row.attempt)
                 why = of_wait(leg.waits_for, leg.labels, run.row.repository, replace(facts, is_approved=approved))
                 if why is not None:
-                    rows.append(_waiting(run, leg_name(run, job, leg), leg_link(run, run.row.attempt, index, leg.index), why))
-    pending = [run for run in runs.values() if run.row.status == 'pending' and identity.may(Right.READ, run.row.repository)]
+                    rows.append(_waiting(run, leg_name(run, job, leg), leg_link(run, run.row.attempt, index, leg.index),
+                                         why))
+    pending = [run for run in runs.values() if run.row.status == 'pending'
+               and identity.may(Right.READ, run.row.repository)]
     for run in pending[:MOST_ROWS]:
-        rows.append(_waiting(run, 'the whole run', run_link(run), of_group(run.row.group or '', run.row.repository, facts)))
+        rows.append(_waiting(run, 'the whole run', run_link(run),
+                             of_group(run.row.group or '', run.row.repository, facts)))
     rows.sort(key=lambda row: row.since)
     count = len(ready) + len(pending)
-    return site.page(request, 'queue.html', title='Queue', active='queue', labels=labels, rows=rows[:MOST_ROWS], left=max(0, count - MOST_ROWS), count=count,
+    return site.page(request, 'queue.html', title='Queue', active='queue', labels=labels, rows=rows[:MOST_ROWS],
+                     left=max(0, count - MOST_ROWS), count=count,
                      changes='/-/changes', every=10)
 
 

@@ -33,7 +33,8 @@ class RefusedRow:
 
 def _row(one: Refused) -> RefusedRow:
     branch = re.sub('^refs/(heads|tags|pull)/', '', one.ref or '')
-    return RefusedRow(one.at, one.repository, one.event, one.delivery, one.path or one.repository, branch, one.sha or '', one.code, one.line,
+    return RefusedRow(one.at, one.repository, one.event, one.delivery, one.path or one.repository, branch,
+                      one.sha or '', one.code, one.line,
                       one.words, one.advice)
 
 
@@ -69,8 +70,9 @@ class Waiting:
     why: str
 
 
-def waiting_of(site: Site, request: web.Request, repository: str) -> tuple[str, list[Waiting], list[tuple[str, str, int]]]:
-    """Why all events wait; those that wait in a repository, or in all that one may read; and those that start nothing there."""
+def waiting_of(site: Site, request: web.Request,
+               repository: str) -> tuple[str, list[Waiting], list[tuple[str, str, int]]]:
+    """Why all events wait; those that wait where one may read; and those that start nothing there."""
     identity, state, wanted = signed_in(request), site.hub.events.state(), repository.lower()
 
     def shown(name: str) -> bool:
@@ -80,11 +82,14 @@ def waiting_of(site: Site, request: web.Request, repository: str) -> tuple[str, 
     return state.held or '', waiting, untaken
 
 
-def _page(site: Site, request: web.Request, found: list[Refused], here: str, crumbs: list[tuple[str, str]], repository: str) -> web.Response:
+def _page(site: Site, request: web.Request, found: list[Refused], here: str, crumbs: list[tuple[str, str]],
+          repository: str) -> web.Response:
     held, waiting, untaken = waiting_of(site, request, repository)
     older = f'{here}?before={found[PAGE - 1].id}' if len(found) > PAGE else ''
-    return site.page(request, 'refused.html', title=f'Refused events{" · " + repository if repository else ""}', active='refused', crumbs=crumbs,
-                     rows=[_row(one) for one in found[:PAGE]], older=older, every=10, held=held, waiting=waiting, untaken=untaken)
+    return site.page(request, 'refused.html', title=f'Refused events{" · " + repository if repository else ""}',
+                     active='refused', crumbs=crumbs,
+                     rows=[_row(one) for one in found[:PAGE]], older=older, every=10, held=held, waiting=waiting,
+                     untaken=untaken)
 
 
 def routes(site: Site) -> list[web.RouteDef]:

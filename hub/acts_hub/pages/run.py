@@ -56,7 +56,8 @@ def reason_of(site: Site, found: Shown, row: LegRow) -> Reason:
     every = steps_in(site, file, True)
     step = next((one for one in every if one.state == 'failure'), None)
     if step is None:
-        return Reason(row.name, row.link, '', '', 'failed outside of a step', tuple(steps.tail_of(file, 0, file.size())))
+        return Reason(row.name, row.link, '', '', 'failed outside of a step',
+                      tuple(steps.tail_of(file, 0, file.size())))
     link = f'{row.link}?step={step.number}#step:{step.number}'
     return Reason(row.name, row.link, step.name, link, '', tuple(steps.tail_of(file, step.offset, step.end)))
 
@@ -86,15 +87,22 @@ async def run_page(site: Site, request: web.Request) -> web.StreamResponse:
     found = await shown(site, request, attempt)
     failed = [row for row in found.legs if row.state == 'failure']
     reasons = await asyncio.to_thread(lambda: [reason_of(site, found, row) for row in failed[:MOST_REASONS]])
-    nodes, legs = nodes_of(found, now()), [row for row in found.legs if row.leg is not None or row.why is None or row.state != 'blocked']
+    nodes, legs = nodes_of(found, now()), [row for row in found.legs if row.leg is not None or row.why is None
+                                           or row.state != 'blocked']
     kept = site.hub.artifacts.list(found.run.row.run, found.attempt)
-    artifacts = [ArtifactRow(one.name, f'{found.head.base}/artifacts/{one.id}', one.size, one.created_at) for one in kept]
+    artifacts = [ArtifactRow(one.name, f'{found.head.base}/artifacts/{one.id}', one.size, one.created_at)
+                 for one in kept]
     return site.page(
-        request, 'run.html', title=f'{found.head.title} #{found.head.number} · {found.repository}', active='repositories', crumbs=crumbs_of(found),
-        run=found.head, can=await buttons_of(site, request, found), approvals=awaited_jobs(site, found), nodes=nodes, job_link='', reasons=reasons,
-        reasons_left=max(0, len(failed) - MOST_REASONS), waits=await waits_of(site, found), displaced=displaced(site, found),
-        wide=graph.drawing(nodes), narrow=graph.narrow(nodes), legs=legs[:MOST_LEGS], legs_left=max(0, len(legs) - MOST_LEGS),
-        annotations=annotations_of(site, found), summaries=summaries_of(site, found), artifacts=artifacts, changes=f'/-/changes?run={found.head.id}')
+        request, 'run.html', title=f'{found.head.title} #{found.head.number} · {found.repository}',
+        active='repositories', crumbs=crumbs_of(found),
+        run=found.head, can=await buttons_of(site, request, found), approvals=awaited_jobs(site, found), nodes=nodes,
+        job_link='', reasons=reasons,
+        reasons_left=max(0, len(failed) - MOST_REASONS), waits=await waits_of(site, found),
+        displaced=displaced(site, found),
+        wide=graph.drawing(nodes), narrow=graph.narrow(nodes), legs=legs[:MOST_LEGS],
+        legs_left=max(0, len(legs) - MOST_LEGS),
+        annotations=annotations_of(site, found), summaries=summaries_of(site, found), artifacts=artifacts,
+        changes=f'/-/changes?run={found.head.id}')
 
 
 def displaced(site: Site, found: Shown) -> Why | None:
@@ -118,10 +126,12 @@ async def artifact(site: Site, request: web.Request) -> web.StreamResponse:
     if kept is None or path is None:
         raise web.HTTPNotFound(text='There is no such artifact any more.')
     name = ''.join(one if one.isascii() and (one.isalnum() or one in '._-') else '_' for one in kept.name)[:100]
-    return web.FileResponse(path, headers={**HEADERS, 'Content-Type': 'application/zip', 'Content-Disposition': f'attachment; filename="{name}.zip"'})
+    return web.FileResponse(path, headers={**HEADERS, 'Content-Type': 'application/zip',
+                                           'Content-Disposition': f'attachment; filename="{name}.zip"'})
 
 
 def routes(site: Site) -> list[web.RouteDef]:
     """Pages of runs."""
     base = '/{owner}/{repo}/actions/runs/{run}'
-    return [site.get(base, run_page), site.get(f'{base}/attempts/{{attempt}}', run_page), site.get(f'{base}/artifacts/{{artifact}}', artifact)]
+    return [site.get(base, run_page), site.get(f'{base}/attempts/{{attempt}}', run_page),
+            site.get(f'{base}/artifacts/{{artifact}}', artifact)]

@@ -41,8 +41,10 @@ def _row(site: Site, request: web.Request, runner: Runner, wholes: Mapping[int, 
         for index, job in enumerate(whole.jobs if whole else ()):
             for one in job.legs:
                 if (job.id, one.index) == (lease.job, lease.leg):
-                    link, leg, repository = leg_link(run, run.row.attempt, index, one.index), leg_name(run, job, one), run.row.repository
-    return RunnerRow(runner.name, sign, runner.labels or (), link, leg, repository, moments.seconds_ago(runner.heard_seconds_ago))
+                    link, leg, repository = leg_link(run, run.row.attempt, index,
+                                                     one.index), leg_name(run, job, one), run.row.repository
+    return RunnerRow(runner.name, sign, runner.labels or (), link, leg, repository,
+                     moments.seconds_ago(runner.heard_seconds_ago))
 
 
 def _fits(runner: Runner, q: str) -> bool:
@@ -55,9 +57,11 @@ async def runners(site: Site, request: web.Request) -> web.StreamResponse:
     q = words_of(request.query)
     every = [one for one in await site.runners() if _fits(one, q.casefold())]
     order = sorted(every, key=lambda one: (one.heard_seconds_ago is None, one.heard_seconds_ago, one.name))
-    kinds = {'At work': [one for one in order if one.lease], 'Idle': [one for one in order if not one.lease and is_there(one)],
+    kinds = {'At work': [one for one in order if one.lease],
+             'Idle': [one for one in order if not one.lease and is_there(one)],
              'Away': [one for one in order if not is_there(one)]}
-    wholes = await site.wholes(one.lease.run for one in kinds['At work'][:MOST_SHOWN] if one.lease and one.lease.run in site.hub.mirror.runs)
+    wholes = await site.wholes(one.lease.run for one in kinds['At work'][:MOST_SHOWN] if one.lease
+                               and one.lease.run in site.hub.mirror.runs)
     sections = []
     for title, found in kinds.items():
         most = MOST_AWAY if title == 'Away' else MOST_SHOWN

@@ -75,8 +75,10 @@ def row_of(run: Run, state: str, why: Why | None = None) -> RunRow:
     link = f'{repository_link(row.repository)}?{urlencode({"branch": branch})}'
     is_over = row.status == 'completed'
     return RunRow(
-        row.run, run_link(run), title_of(run), states.sign(state), workflow_of(run), row.number, row.attempt, HOW.get(row.event, f'{row.event},'),
-        facts.pull_number, facts.sha or '', facts.actor or '', branch, link, run.created_at, None if row.status == 'pending' else run.started_at,
+        row.run, run_link(run), title_of(run), states.sign(state), workflow_of(run), row.number, row.attempt,
+        HOW.get(row.event, f'{row.event},'),
+        facts.pull_number, facts.sha or '', facts.actor or '', branch, link, run.created_at,
+        None if row.status == 'pending' else run.started_at,
         (run.completed_at or run.updated_at) if is_over else None, why)
 
 
@@ -86,7 +88,8 @@ async def workflows_of(site: Site, repository: str) -> list[WorkflowRow]:
     for path in site.paths(repository):
         if runs := site.hub.mirror.select(repository, path=path):
             run = runs[-1]
-            rows[path] = WorkflowRow(workflow_of(run), path, workflow_link(repository, path), states.sign(site.state_of(run)))
+            rows[path] = WorkflowRow(workflow_of(run), path, workflow_link(repository, path),
+                                     states.sign(site.state_of(run)))
     for path, file in (await site.files.of(repository)).items():
         if file.inputs is not None and path not in rows:
             rows[path] = WorkflowRow(file.name, path, workflow_link(repository, path), NEVER)
@@ -101,13 +104,15 @@ async def repositories(site: Site, request: web.Request) -> web.StreamResponse:
         if not identity.may(Right.READ, name) or q.casefold() not in name.casefold():
             continue
         runs = mirror.of(name)
-        active, queued, pending = (len(mirror.select(name, status=status)) for status in ('in_progress', 'queued', 'pending'))
+        active, queued, pending = (len(mirror.select(name, status=status))
+                                   for status in ('in_progress', 'queued', 'pending'))
         last = runs[-1] if runs else None
         state = site.state_of(last) if last else 'skipped'
         rows.append(RepositoryRow(name, repository_link(name), len(runs), active, queued + pending, states.sign(state),
                                   row_of(last, state) if last else None))
     rows.sort(key=lambda row: -(row.last.created_at if row.last else 0))
-    return site.page(request, 'repositories.html', title='Repositories', active='repositories', rows=rows[:MOST_REPOSITORIES], q=q,
+    return site.page(request, 'repositories.html', title='Repositories', active='repositories',
+                     rows=rows[:MOST_REPOSITORIES], q=q,
                      is_whole=mirror.is_whole, changes='/-/changes')
 
 
@@ -160,11 +165,16 @@ async def list_page(site: Site, request: web.Request, repository: str, path: str
     workflows = await workflows_of(site, repository)
     workflow = next((one for one in workflows if one.path == path), None)
     return site.page(
-        request, 'runs.html', sent.pop('status', 200), title=f'{workflow.name if workflow else "Runs"} · {repository}', active='repositories',
-        crumbs=[(repository, '' if not path else repository_link(repository)), *([(workflow.name, '')] if workflow else [])],
-        base=repository_link(repository), here=here, workflow=workflow, workflows=workflows, wanted=wanted, is_filtered=not wanted.is_empty,
-        rows=await _rows(site, repository, page.runs), count_words=_counted(runs, tests, wanted), statuses=filters.STATUSES,
-        events=sorted({run.row.event for run in runs[-1000:]}), changes=f'/-/changes?{urlencode({"repository": repository})}',
+        request, 'runs.html', sent.pop('status', 200), title=f'{workflow.name if workflow else "Runs"} · {repository}',
+        active='repositories',
+        crumbs=[(repository, '' if not path else repository_link(repository)),
+                *([(workflow.name, '')] if workflow else [])],
+        base=repository_link(repository), here=here, workflow=workflow, workflows=workflows, wanted=wanted,
+        is_filtered=not wanted.is_empty,
+        rows=await _rows(site, repository, page.runs), count_words=_counted(runs, tests, wanted),
+        statuses=filters.STATUSES,
+        events=sorted({run.row.event for run in runs[-1000:]}),
+        changes=f'/-/changes?{urlencode({"repository": repository})}',
         newer=here + wanted.query(after=page.newer) if page.newer is not None else '',
         older=here + wanted.query(before=page.older) if page.older is not None else '',
         dispatch=await form_of(site, request, repository, path, **sent) if path else None)
@@ -185,7 +195,8 @@ def _counted(runs: Sequence[Run], tests: Sequence[Any], wanted: filters.Wanted) 
 async def _rows(site: Site, repository: str, runs: Sequence[Run]) -> list[RunRow]:
     pending = [run for run in runs if run.row.status == 'pending' and run.row.group is not None]
     facts = await site.facts(('group',) if pending else ())
-    return [row_of(run, site.state_of(run), of_group(run.row.group or '', repository, facts) if run in pending else None) for run in runs]
+    return [row_of(run, site.state_of(run), of_group(run.row.group or '', repository, facts) if run in pending
+                   else None) for run in runs]
 
 
 async def to_runs(site: Site, request: web.Request) -> web.StreamResponse:
@@ -196,6 +207,7 @@ async def to_runs(site: Site, request: web.Request) -> web.StreamResponse:
 def routes(site: Site) -> list[web.RouteDef]:
     """Lists of runs."""
     return [
-        site.get('/', repositories), site.get('/{owner}/{repo}', to_runs), site.get('/{owner}/{repo}/actions', runs_of_repository),
+        site.get('/', repositories), site.get('/{owner}/{repo}', to_runs),
+        site.get('/{owner}/{repo}/actions', runs_of_repository),
         site.post('/{owner}/{repo}/actions/workflows/{file:.+}/dispatch', dispatch),
         site.get('/{owner}/{repo}/actions/workflows/{file:.+}', runs_of_workflow)]

@@ -35,15 +35,18 @@ AT_ONCE = 8  # requests to the service for one page
 THEMES = ('system', 'light', 'dark')
 STATIC = {'hub.css': 'text/css', 'hub.js': 'text/javascript', 'mark.svg': 'image/svg+xml'}
 HEADERS = {
-    'Content-Security-Policy': "default-src 'none'; style-src 'self'; script-src 'self'; img-src 'self'; connect-src 'self'; form-action 'self'; "
-                               "base-uri 'none'; frame-ancestors 'none'",
-    'X-Content-Type-Options': 'nosniff', 'Referrer-Policy': 'same-origin', 'X-Frame-Options': 'DENY', 'Cache-Control': 'no-store'}
+    'Content-Security-Policy': "default-src 'none'; style-src 'self'; script-src 'self'; img-src 'self'; "
+                               "connect-src 'self'; form-action 'self'; base-uri 'none'; frame-ancestors 'none'",
+    'X-Content-Type-Options': 'nosniff', 'Referrer-Policy': 'same-origin', 'X-Frame-Options': 'DENY',
+    'Cache-Control': 'no-store'}
 NOTES = {
     'cancel': 'The run was asked to stop.', 'force-cancel': 'The run was ended.', 'rerun': 'The run begins again.',
-    'rerun-failed': 'The failed jobs begin again.', 'dispatch': 'The workflow was asked to run; its run is listed here once it is there.',
+    'rerun-failed': 'The failed jobs begin again.',
+    'dispatch': 'The workflow was asked to run; its run is listed here once it is there.',
     'approve': 'The environment was approved for this run.'}
 SENTENCES = {
-    404: ('Not found', 'There is nothing here, or you may not see it.'), 403: ('Not allowed', 'Your token may not do this.'),
+    404: ('Not found', 'There is nothing here, or you may not see it.'),
+    403: ('Not allowed', 'Your token may not do this.'),
     503: ('The service is away', 'The hub does not reach the service at the moment. Try again soon.')}
 Handler = Callable[['Site', web.Request], Awaitable[web.StreamResponse]]
 
@@ -64,10 +67,12 @@ class Site:
         self.env = self._environment()
 
     def _environment(self) -> jinja2.Environment:
-        env = jinja2.Environment(loader=jinja2.FileSystemLoader(HERE / 'templates'), autoescape=True, undefined=jinja2.StrictUndefined,
+        env = jinja2.Environment(loader=jinja2.FileSystemLoader(HERE / 'templates'), autoescape=True,
+                                 undefined=jinja2.StrictUndefined,
                                  trim_blocks=True, lstrip_blocks=True, auto_reload=False)
         env.filters.update(
-            ago=moments.ago, lasted=moments.lasted, exact=moments.exact, machine=moments.machine, seen=texts.seen, plain=texts.plain,
+            ago=moments.ago, lasted=moments.lasted, exact=moments.exact, machine=moments.machine, seen=texts.seen,
+            plain=texts.plain,
             isolated=texts.isolated, short=texts.shortened, sign=states.sign, bytes=moments.size)
         env.globals.update(static=self.static_link)
         env.globals['parts'] = env.get_template('parts.html').module
@@ -89,9 +94,12 @@ class Site:
         theme = theme if theme in THEMES[1:] else ''
         notes = [('', NOTES[one]) for one in request.query.getall('did', [])[:1] if one in NOTES]
         return {
-            'identity': identity, 'token': self.token(request), 'theme': theme, 'other_theme': THEMES[(THEMES.index(theme or 'system') + 1) % 3],
-            'here': request.raw_path, 'now': now(), 'notes': notes, 'can_sign_out': identity is not None and self.has_session(request),
-            'views': (('repositories', 'Repositories', '/'), ('queue', 'Queue', '/queue'), ('runners', 'Runners', '/runners'),
+            'identity': identity, 'token': self.token(request), 'theme': theme,
+            'other_theme': THEMES[(THEMES.index(theme or 'system') + 1) % 3],
+            'here': request.raw_path, 'now': now(), 'notes': notes,
+            'can_sign_out': identity is not None and self.has_session(request),
+            'views': (('repositories', 'Repositories', '/'), ('queue', 'Queue', '/queue'),
+                      ('runners', 'Runners', '/runners'),
                       ('groups', 'Groups', '/groups'), ('refused', 'Refused', '/refused'))}
 
     def token(self, request: web.Request) -> str:
@@ -249,7 +257,8 @@ async def static(site: Site, request: web.Request) -> web.StreamResponse:
     if name not in STATIC:
         raise web.HTTPNotFound
     kept = 'public, max-age=31536000, immutable' if request.query_string == site.digests[name] else 'no-cache'
-    return web.Response(body=site.statics[name], content_type=STATIC[name], charset='utf-8', headers={**HEADERS, 'Cache-Control': kept})
+    return web.Response(body=site.statics[name], content_type=STATIC[name], charset='utf-8',
+                        headers={**HEADERS, 'Cache-Control': kept})
 
 
 async def theme(site: Site, request: web.Request) -> web.StreamResponse:
@@ -258,7 +267,8 @@ async def theme(site: Site, request: web.Request) -> web.StreamResponse:
     answer = web.HTTPSeeOther(local(sent.get('back')))
     chosen = sent.get('theme')
     if chosen in THEMES[1:]:
-        answer.set_cookie('theme', str(chosen), max_age=31_536_000, path='/', samesite='Lax', httponly=True, secure=site.hub.config.is_secure)
+        answer.set_cookie('theme', str(chosen), max_age=31_536_000, path='/', samesite='Lax', httponly=True,
+                          secure=site.hub.config.is_secure)
     else:
         answer.del_cookie('theme', path='/')
     raise answer
@@ -267,9 +277,8 @@ async def theme(site: Site, request: web.Request) -> web.StreamResponse:
 def local(address: object) -> str:
     """An address of this hub to go back to; the first page for any other."""
     text = address if isinstance(address, str) else ''
-    if not text.startswith('/') or text.startswith(('//', '/\\')) or len(text) > 2000 or any(ord(one) < 33 or one == '\\' for one in text):
-        return '/'
-    return text
+    is_own = text.startswith('/') and not text.startswith('//') and len(text) <= 2000
+    return text if is_own and all(ord(one) > 32 and one != '\\' for one in text) else '/'
 
 
 def routes(site: Site) -> list[web.RouteDef]:

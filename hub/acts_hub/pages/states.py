@@ -16,11 +16,15 @@ class Sign:
 
 
 SIGNS = {
-    'success': Sign('success', 'Success'), 'failure': Sign('failure', 'Failure'), 'cancelled': Sign('cancelled', 'Cancelled'),
-    'skipped': Sign('skipped', 'Skipped'), 'neutral': Sign('skipped', 'Neutral'), 'timed_out': Sign('failure', 'Timed out'),
+    'success': Sign('success', 'Success'), 'failure': Sign('failure', 'Failure'),
+    'cancelled': Sign('cancelled', 'Cancelled'),
+    'skipped': Sign('skipped', 'Skipped'), 'neutral': Sign('skipped', 'Neutral'),
+    'timed_out': Sign('failure', 'Timed out'),
     'queued': Sign('queued', 'Queued'), 'ready': Sign('queued', 'Queued'), 'pending': Sign('waiting', 'Pending'),
-    'waiting': Sign('waiting', 'Waiting'), 'blocked': Sign('waiting', 'Waiting'), 'in_progress': Sign('running', 'In progress'),
-    'running': Sign('running', 'In progress'), 'open': Sign('running', 'In progress'), 'stopping': Sign('stopping', 'Cancelling'),
+    'waiting': Sign('waiting', 'Waiting'), 'blocked': Sign('waiting', 'Waiting'),
+    'in_progress': Sign('running', 'In progress'),
+    'running': Sign('running', 'In progress'), 'open': Sign('running', 'In progress'),
+    'stopping': Sign('stopping', 'Cancelling'),
     'refused': Sign('failure', 'Refused')}
 UNKNOWN = Sign('skipped', 'Unknown')
 

@@ -48,18 +48,20 @@ def steps_of(marks: Sequence[StepMark], size: int, is_over: bool) -> list[Step]:
         end = marks[0].offset if marks else size
         if end:
             state = 'success' if marks or is_over else 'running'
-            steps.append(Step(0, BEFORE if marks else 'Log', state, states.sign(state), None, None, 0, end, not marks and not is_over))
+            steps.append(Step(0, BEFORE if marks else 'Log', state, states.sign(state), None, None, 0, end,
+                              not marks and not is_over))
     for place, mark in enumerate(marks):
         after = marks[place + 1].offset if place + 1 < len(marks) else size
         state = mark.outcome or ('cancelled' if is_over else 'running')
         is_open = mark.outcome is None and not is_over and place + 1 == len(marks)
-        steps.append(Step(mark.number, mark.name, state, states.sign(state), mark.started_at, mark.ended_at, mark.offset,
+        steps.append(Step(mark.number, mark.name, state, states.sign(state), mark.started_at, mark.ended_at,
+                          mark.offset,
                           max(mark.offset, after), is_open))
     return steps
 
 
 def first_shown(step: Step, total: int, line: int | None) -> int:
-    """Where the window of a step begins: with the page of a line; else with its last lines if it failed or goes on, else with the first."""
+    """Where a window begins: with the page of a line; else at the end of a step that failed or goes on; else first."""
     if line is not None:
         return (min(max(line, 1), max(total, 1)) - 1) // WINDOW * WINDOW + 1
     return max(1, total - WINDOW + 1) if step.is_open or step.state == 'failure' else 1
@@ -73,7 +75,8 @@ def window_of(file: LogFile, step: Step, line: int | None = None) -> Window:
         total += 1
     first = first_shown(step, total, line)
     raw = file.window(before + first - 1, min(WINDOW, max(0, total - first + 1)), step.end)
-    lines = tuple(folding.line_of(first + place, one.decode('utf-8', 'replace').rstrip('\r')) for place, one in enumerate(raw))
+    lines = tuple(folding.line_of(first + place, one.decode('utf-8', 'replace').rstrip('\r')) for place,
+                  one in enumerate(raw))
     return Window(step.number, first, lines, total)
 
 
@@ -84,20 +87,23 @@ def tail_of(file: LogFile, first: int, end: int) -> list[str]:
     if begin > first:
         data = data.partition(b'\n')[2] or data
     lines = [line for line in folding.lines_of(data, 1) if line.kind not in ('endgroup', 'debug')]
-    texts = [(f'{_WORDS[line.kind]} ' if _WORDS.get(line.kind) else '') + ansi.without(line.text).rstrip() for line in lines]
+    texts = [(f'{_WORDS[line.kind]} ' if _WORDS.get(line.kind) else '') + ansi.without(line.text).rstrip()
+             for line in lines]
     return [text[:500] for text in texts if text.strip()][-TAIL_LINES:]
 
 
 def line_html(step: int, line: folding.Line, group: int | None = None) -> str:
     """A line as HTML: its number is a link to it."""
     id = f'step:{step}:{line.number}'
-    time = f'<time datetime="{escape(line.at)}" title="{escape(line.at)}">{escape(line.at[11:23].rstrip("Z"))}</time>' if line.at else ''
+    at = escape(line.at)
+    time = f'<time datetime="{at}" title="{at}">{at[11:23].rstrip("Z")}</time>' if at else ''
     words = _WORDS.get(line.kind, '')
     marked = f'<b>{words}</b> ' if words else ''
     where = f' <span class="quiet">{escape(_where(line))}</span>' if line.file else ''
     kind = f' {line.kind}' if line.kind not in ('plain', 'group') else ''
     inside = f' data-group="group:{step}:{group}"' if group is not None else ''
-    return f'<div class="l{kind}" id="{id}"{inside}><a href="#{id}">{line.number}</a><span>{time}{marked}{ansi.html(line.text)}{where}</span></div>'
+    return (f'<div class="l{kind}" id="{id}"{inside}><a href="#{id}">{line.number}</a>'
+            f'<span>{time}{marked}{ansi.html(line.text)}{where}</span></div>')
 
 
 def _where(line: folding.Line) -> str:
@@ -109,7 +115,8 @@ def group_html(step: int, group: folding.Group, is_open: bool) -> str:
     assert group.head is not None
     inside = ''.join(line_html(step, line) for line in group.lines if isinstance(line, folding.Line))
     opened = ' open' if is_open else ''
-    return (f'<details class="group" id="group:{step}:{group.head.number}"{opened}><summary>{line_html(step, group.head)}</summary>{inside}</details>')
+    return (f'<details class="group" id="group:{step}:{group.head.number}"{opened}>'
+            f'<summary>{line_html(step, group.head)}</summary>{inside}</details>')
 
 
 def window_html(window: Window, wanted: int | None = None, is_live: bool = False) -> Markup:
@@ -135,10 +142,13 @@ def _more(window: Window, is_before: bool) -> str:
     if is_before:
         links = [(1, 'First lines'), (window.first - 1, 'Earlier lines')] if window.first > 1 else []
     else:
-        links = [(last + 1, 'Later lines'), (window.total, f'Last of {window.total:,} lines')] if last < window.total else []
+        links = [(last + 1, 'Later lines'), (window.total,
+                                             f'Last of {window.total:,} lines')] if last < window.total else []
     if not links:
         return ''
-    made = ' '.join(f'<a href="?step={window.step}&amp;line={line}#step:{window.step}:{line}" data-line="{line}">{words}</a>' for line, words in links)
+    step = window.step
+    made = ' '.join(f'<a href="?step={step}&amp;line={line}#step:{step}:{line}" data-line="{line}">{words}</a>'
+                    for line, words in links)
     return f'<p class="more">{made}</p>'
 
 

@@ -6,7 +6,7 @@ import unicodedata
 
 from markupsafe import Markup, escape
 
-# Bidirectional controls, characters without width that are not part of a word, and control characters but tab and line feed.
+# Bidirectional controls, characters without width that are no part of a word, control characters but tab and LF.
 _UNSEEN = re.compile('[\u061c\u200b\u200e\u200f\u202a-\u202e\u2060-\u2069\ufeff\u2028\u2029\U000e0000-\U000e007f'
                      '\x00-\x08\x0b-\x1f\x7f-\x9f]')
 

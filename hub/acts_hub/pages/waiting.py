@@ -65,7 +65,8 @@ def of_group(group: str, repository: str, facts: Facts) -> Why:
     run = facts.runs.get(holder.run) if holder else None
     if holder is None or run is None:
         return Why(words, f'/groups?{urlencode({"q": group})}', ' (who holds it)')
-    return Why(f'{words}, held by', run_link(run), f'{workflow_of(run)} #{run.row.number}', f' ({holder.job})' if holder.job else '')
+    return Why(f'{words}, held by', run_link(run), f'{workflow_of(run)} #{run.row.number}',
+               f' ({holder.job})' if holder.job else '')
 
 
 def of_runner(labels: Sequence[str], repository: str, facts: Facts) -> Why:
@@ -75,7 +76,8 @@ def of_runner(labels: Sequence[str], repository: str, facts: Facts) -> Why:
         return Why('waits until somebody approves it')
     named = ', '.join(wanted) or 'any labels'
     found = able(wanted, repository, facts)
-    return replace(found, words=f'waits for a runner: {found.words}' if found.words else f'waits for a runner with {named}:')
+    return replace(found, words=f'waits for a runner: {found.words}' if found.words
+                   else f'waits for a runner with {named}:')
 
 
 def able(labels: Sequence[str], repository: str, facts: Facts) -> Why:
@@ -86,7 +88,8 @@ def able(labels: Sequence[str], repository: str, facts: Facts) -> Why:
     busy = sum(runner.lease is not None for runner in there)
     if not fitting:
         missing = facts.missing(labels, repository)
-        return Why(f'no runner has {", ".join(missing or labels)}' if missing else 'none has asked for work yet', '/runners', '(all runners)')
+        return Why(f'no runner has {", ".join(missing or labels)}' if missing else 'none has asked for work yet',
+                   '/runners', '(all runners)')
     if not there:
         return Why('', link, f'{_counted(len(fitting), "runner")} with these labels', ', not heard of lately')
     if busy == len(there):
@@ -119,7 +122,7 @@ def of_blocked(job: Job, jobs: Sequence[Job], names: Mapping[str, str]) -> Why |
 
 
 def displaced_by(run: Run, runs: Runs) -> Why | None:
-    """The run that took the place of a cancelled one in its concurrency group: the first later one that came before it ended."""
+    """The run that took the place of a cancelled one in its group: the first later one that came before it ended."""
     row, ended = run.row, (run.completed_at or run.updated_at) + CLOCK
     if row.conclusion != 'cancelled' or row.group is None:
         return None
@@ -128,7 +131,8 @@ def displaced_by(run: Run, runs: Runs) -> Why | None:
         if other.created_at > ended:
             break
         if other.row.group == row.group and run.created_at <= other.created_at:
-            return Why(f'A newer run of the concurrency group {row.group} took its place:', run_link(other), f'{title_of(other)} #{other.row.number}')
+            return Why(f'A newer run of the concurrency group {row.group} took its place:', run_link(other),
+                       f'{title_of(other)} #{other.row.number}')
     return None
 
 

@@ -13,7 +13,8 @@ from ..rest.numbers import JobNumber
 from ..service.mirror import Run
 from ..service.models import Job, Leg, Whole
 from . import graph, moments, states
-from .names import is_matrix, job_name, leg_link, leg_name, repository_link, run_link, title_of, workflow_link, workflow_of
+from .names import (is_matrix, job_name, leg_link, leg_name, repository_link, run_link, title_of, workflow_link,
+                    workflow_of)
 from .site import Site, number_of
 from .waiting import Facts, Why, of_blocked, of_wait, own_labels
 
@@ -119,12 +120,14 @@ def _head(site: Site, now_run: Run, attempt: int, whole: Whole | None) -> RunHea
     link, base = run_link(run), repository_link(row.repository)
     branch, pull, is_over = facts.branch or '', facts.pull_number, row.status == 'completed'
     return RunHead(
-        row.run, link, link if is_now else f'{link}/attempts/{attempt}', title_of(run), row.number, states.sign(states.of_run(run)),
+        row.run, link, link if is_now else f'{link}/attempts/{attempt}', title_of(run), row.number,
+        states.sign(states.of_run(run)),
         bool(is_now and whole and whole.stopping and not is_over), attempt, now_run.row.attempt, not is_now, row.event,
         run.triggering_actor or facts.actor or '', run.created_at, None if row.status == 'pending' else run.started_at,
         (run.completed_at or run.updated_at) if is_over else None, pull, facts.pull_title or '',
         f'{base}?{urlencode({"q": f"#{pull}"})}' if pull else '', branch, f'{base}?{urlencode({"branch": branch})}',
-        (row.ref or '').startswith('refs/tags/'), facts.base_ref or '', facts.sha or '', workflow_of(run), workflow_link(row.repository, row.path),
+        (row.ref or '').startswith('refs/tags/'), facts.base_ref or '', facts.sha or '', workflow_of(run),
+        workflow_link(row.repository, row.path),
         row.path, row.group or '', f'/groups?{urlencode({"q": row.group or ""})}')
 
 
@@ -142,13 +145,15 @@ def _rows(run: Run, attempt: int, whole: Whole, job: Job, index: int, facts: Fac
     if not job.legs:
         state = job.state or 'unknown'
         why = of_blocked(job, whole.jobs, {one.id: job_name(one) for one in whole.jobs}) if is_now else None
-        return [LegRow(job, None, index, 0, job_name(job), leg_link(run, attempt, index, 0), state, states.sign(state), '', (), None, None, why)]
+        return [LegRow(job, None, index, 0, job_name(job), leg_link(run, attempt, index, 0), state, states.sign(state),
+                       '', (), None, None, why)]
     rows = []
     for leg in job.legs:
         state = leg.state or 'unknown'
         why = of_wait(leg.waits_for, leg.labels, run.row.repository, facts) if is_now else None
         rows.append(LegRow(
-            job, leg, index, leg.index, leg_name(run, job, leg), leg_link(run, attempt, index, leg.index), state, states.sign(state), leg.runner or '',
+            job, leg, index, leg.index, leg_name(run, job, leg), leg_link(run, attempt, index, leg.index), state,
+            states.sign(state), leg.runner or '',
             own_labels(leg.labels), leg.started_at, leg.ended_at, why))
     return in_order(rows, run.facts.matrix_names.get(job.id, ()))
 
@@ -195,7 +200,8 @@ async def buttons_of(site: Site, request: web.Request, found: Shown) -> Buttons:
     is_over, stopping = row.status == 'completed', bool(found.whole and found.whole.stopping)
     failed = row.conclusion in ('failure', 'cancelled')
     return Buttons(
-        cancel=not is_over and not stopping, force=not is_over and stopping and await site.supports('force'), rerun=is_over,
+        cancel=not is_over and not stopping, force=not is_over and stopping and await site.supports('force'),
+        rerun=is_over,
         rerun_failed=is_over and failed and await site.supports('retry'), approve=bool(awaited_jobs(site, found)))
 
 
@@ -210,4 +216,5 @@ def awaited_jobs(site: Site, found: Shown) -> list[str]:
 def crumbs_of(found: Shown) -> list[tuple[str, str]]:
     """Where a run is."""
     base = repository_link(found.repository)
-    return [(found.repository, base), (found.head.workflow, found.head.workflow_link), (f'#{found.head.number}', found.head.link)]
+    return [(found.repository, base), (found.head.workflow, found.head.workflow_link),
+            (f'#{found.head.number}', found.head.link)]
