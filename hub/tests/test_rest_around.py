@@ -5,8 +5,10 @@ import base64
 import json
 import pathlib
 import time
+from xml.etree import ElementTree
 
 import pytest
+from harness import request
 from rest_stand import ArtifactsByHand, CachesByHand, Stand, run_of, sha, standing
 
 from acts_hub.config import AccessConfig
@@ -148,7 +150,7 @@ def test_what_clients_ask_first(stand: Stand) -> None:
     repository = stand.json(REPO, 'write')
     assert (repository['full_name'], repository['default_branch'], repository['permissions']) == (
         'octo/hello', 'main', {'admin': False, 'push': True, 'pull': True})
-    assert [one['full_name'] for one in stand.json('/user/repos')] == ['octo/hello']
+    assert [one['full_name'] for one in stand.json('/user/repos')] == ['octo/empty', 'octo/hello']
     assert stand.json('/user/repos', 'other') == []
     assert stand.json('/repos/octo/empty')['name'] == 'empty'  # configured, without runs
     assert stand.json('/repos/octo/empty/actions/runs') == {'total_count': 0, 'workflow_runs': []}
@@ -224,3 +226,26 @@ def test_the_words_of_401(stand: Stand) -> None:
         for path in ('/user', REPO, f'{REPO}/actions/runs', '/nothing'):
             answer = stand.get(path, token)
             assert (answer.status, answer.json()['message']) == (401, words)
+
+
+def test_badges(stand: Stand) -> None:
+    stand.mirror.put(run_of(1, conclusion='failure'))
+    stand.mirror.put(run_of(2, branch='topic/a'))
+    stand.mirror.put(run_of(3, status='in_progress'))
+    stand.mirror.put(run_of(4, path=DEPLOY, workflow='</title><script>alert(1)</script>"', branch='other'))
+    first = next(one for one in stand.json(f'{REPO}/actions/workflows')['workflows'] if one['name'] == 'CI')
+    path = first['badge_url'].removeprefix(stand.hub.config.url)
+    fields = {'Authorization': f'token {stand.tokens["read"]}'}
+
+    def words(query: str = '', where: str = path) -> str:
+        answer = request(stand.port, 'GET', where + query, None, fields)
+        assert (answer.status, answer.headers['Content-Type']) == (200, 'image/svg+xml; charset=utf-8')
+        picture = ElementTree.fromstring(answer.text)  # it is well formed
+        assert {one.tag.rpartition('}')[2] for one in picture.iter()} == {'svg', 'title', 'rect', 'g', 'text'}
+        return [one.text or '' for one in picture.iter() if one.tag.endswith('}text')][1]
+    assert words() == 'failing' and words('?branch=topic/a') == 'passing' and words('?branch=none') == 'no status' and words('?event=pull_request') == 'no status'
+    assert words(where=path.replace('ci.yml', 'deploy.yml')) == 'no status'
+    for token, status in (('other', 404), (None, 401)):
+        given = {'Authorization': f'token {stand.tokens[token]}'} if token else {}
+        assert request(stand.port, 'GET', path, None, given).status == status
+    assert request(stand.port, 'GET', path.replace('ci.yml', 'none.yml'), None, fields).status == 404

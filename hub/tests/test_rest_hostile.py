@@ -3,6 +3,7 @@ from __future__ import annotations
 
 import random
 import socket
+from urllib.parse import quote
 
 import pytest
 from rest_stand import Stand, job_of, leg_of, run_of
@@ -77,6 +78,18 @@ def test_names_of_repositories_that_can_t_be(stand: Stand, owner: str, name: str
     for path in ('', '/actions/runs', '/contents/.github/workflows/ci.yml'):
         status, text = raw(stand, 'GET', f'/api/v3/repos/{owner}/{name}{path}', 'admin')
         assert status == 404, text[:300]
+
+
+def test_a_branch_of_anything_does_not_leave_its_field(stand: Stand) -> None:
+    """A list with links, below a path that has line feeds and brackets."""
+    evil = 'a>; rel="x"\r\nX-Evil: 1 \xe9'
+    for number in (1, 2):
+        stand.mirror.put(run_of(number, branch=evil, sha='a' * 40, path=f'.github/workflows/{number}.yml'), job_of('build', leg_of()))
+    answer = stand.get(f'{BASE}/commits/{quote(evil, safe="")}/check-runs?per_page=1&check_name=build')
+    assert answer.status == 200 and 'X-Evil' not in answer.headers and answer.json()['total_count'] == 2
+    assert answer.headers['Link'].count('>; rel=') == 2 and '\n' not in answer.headers['Link']
+    following = answer.headers['Link'].partition('>')[0][1:].removeprefix(stand.hub.config.url)
+    assert stand.get(following).json()['check_runs'] != answer.json()['check_runs']
 
 
 def test_names_with_markup_stay_json(stand: Stand) -> None:

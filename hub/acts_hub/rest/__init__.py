@@ -13,6 +13,7 @@ def routes(hub: Hub) -> list[web.RouteDef]:
     """The routes of this part; what there is not comes last."""
     from .api import Api
     from .artifacts import ArtifactRequests
+    from .badges import BadgeRequests
     from .checks import CheckRequests
     from .jobs import JobRequests
     from .repos import RepositoryRequests
@@ -22,4 +23,4 @@ def routes(hub: Hub) -> list[web.RouteDef]:
     api = Api(hub)
     repositories = RepositoryRequests(api)
     return [*RunRequests(api).routes(), *JobRequests(api).routes(), *WorkflowRequests(api).routes(), *CheckRequests(api).routes(),
-            *ArtifactRequests(api).routes(), *RunnerRequests(api).routes(), *repositories.routes(), *repositories.last()]
+            *ArtifactRequests(api).routes(), *RunnerRequests(api).routes(), *BadgeRequests(api).routes(), *repositories.routes(), *repositories.last()]

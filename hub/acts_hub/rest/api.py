@@ -145,6 +145,11 @@ class Api:
             return runs[-1].row.repository
         return next((one.name for one in self.hub.config.repositories if one.name.lower() == repository.lower()), None)
 
+    def repositories(self, identity: Identity) -> list[str]:
+        """The repositories that one may read: those with runs, and those that are configured."""
+        found = {name.lower(): name for name in [one.name for one in self.hub.config.repositories] + self.hub.mirror.repositories()}
+        return sorted(name for name in found.values() if identity.may(Right.READ, name))
+
     def writable(self, request: web.Request, right: Right = Right.WRITE) -> tuple[str, Identity]:
         """The repository of an address and who asks, for who may act in it. A cookie does not do: pages have forms for that."""
         repository = self.repository(request)
@@ -284,7 +289,7 @@ class Api:
     def page(self, request: web.Request, page: Page, member: str, texts: Sequence[str], total: int,
              tag: str | None = None) -> web.Response:
         """A page of objects, with the links to others; without a member it is a bare list."""
-        links = page.links(f'{self.shapes.web}{request.path}', request.query, total)
+        links = page.links(f'{self.shapes.web}{request.rel_url.raw_path}', request.query, total)
         rows = f'[{",".join(texts)}]'
         text = f'{{"total_count":{total},"{member}":{rows}}}' if member else rows
         return self.text(request, text, tag=tag, headers={'Link': links} if links else None)

@@ -12,8 +12,8 @@ MAX_RUNS = 200
 
 def commit_of(mirror: Mirror, repository: str, ref: str) -> str | None:
     """The commit that a ref names: itself, or that of the latest run of a branch or tag."""
-    if SHA.fullmatch(ref):
-        return ref
+    if SHA.fullmatch(ref.lower()):
+        return ref.lower()
     if len(ref) > MAX_REF:
         return None
     runs = mirror.select(repository, branch=ref.removeprefix('refs/').removeprefix('heads/').removeprefix('tags/'))

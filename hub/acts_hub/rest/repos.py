@@ -73,7 +73,7 @@ class RepositoryRequests:
     async def of_user(self, request: web.Request) -> web.Response:
         """The repositories that one may read."""
         identity = require(request, Right.READ)
-        names = [name for name in self.hub.mirror.repositories() if identity.may(Right.READ, name)]
+        names = self.api.repositories(identity)
         page = Page.of(request.query)
         return self.api.some(request, page, '', [self.shape(request, name) for name in page.cut(names)], len(names))
 

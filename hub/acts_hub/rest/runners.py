@@ -7,7 +7,7 @@ from aiohttp import web
 
 from ..access.identity import Right, require
 from ..service.models import Runner
-from .api import REPOSITORY, Api
+from .api import Api
 from .errors import Fault
 from .numbers import decimal, number_of
 from .pages import Page
@@ -38,8 +38,7 @@ class RunnerRequests:
         """The runners of an organisation of which one may read a repository."""
         identity = require(request, Right.READ)
         owner = request.match_info['org'].lower()
-        known = [name for name in self.hub.mirror.repositories() if name.partition('/')[0].lower() == owner]
-        if not REPOSITORY.fullmatch(owner) or not any(identity.may(Right.READ, name) for name in known):
+        if not any(name.partition('/')[0].lower() == owner for name in self.api.repositories(identity)):
             raise Fault(404)
         return await self.listed(request)
 
