@@ -272,7 +272,16 @@ def test_a_command_that_hangs_is_ended(service: Service, watch: Callable[..., Wa
     until(lambda: watchdog.said().count('hangs is silent, and not lost: its host was not fenced') == 2)
     assert leg(service, run) == 'running'
     watchdog.kill()
-    assert subprocess.run(['pgrep', '-fx', 'sleep 600.5'], capture_output=True, text=True).stdout.splitlines()[1:] == []  # but for one that is just begun
+    sleepers = [path for path in pathlib.Path('/proc').glob('[0-9]*/cmdline') if b'sleep\x00600.5\x00' == said_by(path)]
+    assert len(sleepers) <= 1  # one that is just begun
+
+
+def said_by(path: pathlib.Path) -> bytes:
+    """The words of a process; none if it has ended."""
+    try:
+        return path.read_bytes()
+    except OSError:
+        return b''
 
 
 def start_host(watchdog: Watchdog, service: Service, folder: pathlib.Path, name: str) -> subprocess.Popen[bytes]:

@@ -17,6 +17,7 @@ def add(parsers: Any) -> None:
     parser.add_argument('--listen', default='127.0.0.1:8443', metavar='HOST:PORT',
                         help='where the hub listens; port 0 is a free one; it counts at the first start (127.0.0.1:8443)')
     parser.add_argument('--once', action='store_true', help='end once the example has; the status is 0 if it has succeeded')
+    parser.add_argument('--no-runner', action='store_true', help='start no runner, and no example: runners come from other hosts')
     parser.add_argument('--open-loopback', action='store_true', help='go on where no network namespace can be had: every program can use the ports')
     parser.add_argument('--runner-user', metavar='NAME', help='begun by root: as whom the runner runs (nobody, where that can be)')
     parser.set_defaults(run=run)
@@ -24,4 +25,4 @@ def add(parsers: Any) -> None:
 
 def run(given: argparse.Namespace) -> int:
     """Starts all."""
-    return run_up(Wishes(given.folder, given.acts, given.listen, given.once, given.open_loopback, given.runner_user))
+    return run_up(Wishes(given.folder, given.acts, given.listen, given.once, given.no_runner, given.open_loopback, given.runner_user))

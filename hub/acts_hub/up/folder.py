@@ -1,6 +1,7 @@
 """What `acts-hub up` keeps in its folder: each thing is made once, so the next start goes on with it."""
 from __future__ import annotations
 
+import ipaddress
 import os
 import pathlib
 import secrets
@@ -93,7 +94,7 @@ def prepare(folder: Folder, acts: str, listen: str, labels: str, owner: tuple[in
     folder.runner.mkdir(exist_ok=True)
     folder.runner.chmod(0o700)
     _make_store(folder, acts)
-    _make_certificate(folder)
+    _make_certificate(folder, listen)
     _make_secret(folder.secret, secrets.token_hex(32))
     if not folder.config.exists():
         _write(folder.config, _config_text(folder, _free(listen)))
@@ -171,11 +172,21 @@ def _make_store(folder: Folder, acts: str) -> None:
     os.replace(new, folder.store)
 
 
-def _make_certificate(folder: Folder) -> None:
+def _names(listen: str) -> str:
+    """The names of the certificate: this machine's, and where the hub listens."""
+    host = listen.rpartition(':')[0].strip('[]')
+    try:
+        listening = f'IP:{ipaddress.ip_address(host)}'
+    except ValueError:
+        listening = f'DNS:{host}'
+    return 'subjectAltName=' + ','.join(dict.fromkeys(['DNS:localhost', f'DNS:{socket.gethostname()}', 'IP:127.0.0.1', 'IP:::1', listening]))
+
+
+def _make_certificate(folder: Folder, listen: str) -> None:
     if folder.certificate.exists() and folder.key.exists():
         return
     new = folder.path / 'certificate.new'
-    names = f'subjectAltName=DNS:localhost,DNS:{socket.gethostname()},IP:127.0.0.1,IP:::1'
+    names = _names(listen)
     before = os.umask(0o077)
     try:
         _call('openssl', 'req', '-x509', '-newkey', 'ec', '-pkeyopt', 'ec_paramgen_curve:prime256v1', '-nodes', '-days', '3650',

@@ -40,6 +40,7 @@ class Wishes:
     acts: str
     listen: str
     once: bool
+    no_runner: bool
     open_loopback: bool
     runner_user: str | None
 
@@ -59,7 +60,7 @@ def run(wishes: Wishes) -> int:
         user = _runner_user(wishes, folder)
         owner = _numbers(user)
         config = prepare(folder, os.path.abspath(acts), wishes.listen, LABELS, owner)
-        if user is None:
+        if user is None and not wishes.no_runner:
             say('The steps of the runner run as you: a trial alone. On a host of its own, or as another user, it can use nothing of this folder.')
         return asyncio.run(_live(folder, config, os.path.abspath(acts), wishes, user))
     except (Unfit, Failed, OSError) as fault:
@@ -109,11 +110,12 @@ def _children(folder: Folder, config: Config, acts: str, wishes: Wishes, user: s
     runner = (*_program('acts_runner'), '--hub', config.url, '--token-file', str(folder.runner_token), '--ca', str(folder.certificate),
               '--name', NAME, '--labels', LABELS, '--state', str(folder.runner / 'state'), '--mirrors', str(folder.mirrors), '--pause', '1')
     home = {'HOME': str(folder.runner)} if user else {}
-    return (
+    children = (
         Child('service', (*doors, *serve), folder.log('service'), view.healthy),
         Child('hub', (*_program('acts_hub'), 'serve', '--config', str(folder.config)), folder.log('hub'),
               lambda: _answers(config)),
         Child('runner', runner, folder.log('runner'), lambda: _has_runner(view), user=user, environment=home))
+    return children[:2] if wishes.no_runner else children
 
 
 def _free_ports() -> tuple[int, int, int]:
@@ -147,7 +149,7 @@ async def _live(folder: Folder, config: Config, acts: str, wishes: Wishes, user:
     for number in signal.SIGINT, signal.SIGTERM, signal.SIGHUP:
         loop.add_signal_handler(number, asked.set)
     kept: list[asyncio.Task[None]] = []
-    work = loop.create_task(_work(folder, config, children, kept, view, wishes.once))
+    work = loop.create_task(_work(folder, config, children, kept, view, wishes))
     stopped = loop.create_task(asked.wait())
     try:
         await _first(work, stopped, kept)
@@ -173,24 +175,30 @@ async def _first(work: asyncio.Task[int], stopped: asyncio.Task[bool], kept: lis
                 task.result()
 
 
-async def _work(folder: Folder, config: Config, children: Sequence[Child], kept: list[asyncio.Task[None]], view: ViewPort, once: bool) -> int:
+async def _work(folder: Folder, config: Config, children: Sequence[Child], kept: list[asyncio.Task[None]], view: ViewPort, wishes: Wishes) -> int:
     """What is done between the start and a signal; the exit status."""
     for child in children:
         kept.append(asyncio.get_running_loop().create_task(child.keep(say)))
         await child.ready()
     _greet(folder, config)
+    is_well = wishes.no_runner or await _play(folder, config, view)
+    if not wishes.once:
+        say('Ctrl-C ends all of this; the same command goes on with it.')
+        await asyncio.Event().wait()
+    return 0 if is_well else 1
+
+
+async def _play(folder: Folder, config: Config, view: ViewPort) -> bool:
+    """Runs the example to its end; whether it has succeeded."""
     hooks = HookPort(config.service.hook)
     try:
         run = await example.play(folder, hooks)
         say(f'Run {run}: {config.url}/{REPOSITORY}/actions/runs/{run}')
         outcome = await example.ended(run, view)
         say(f'Run {run} has ended: {outcome.conclusion}')
+        return outcome.conclusion == 'success'
     finally:
         await hooks.close()
-    if not once:
-        say('Ctrl-C ends all of this; the same command goes on with it.')
-        await asyncio.Event().wait()
-    return 0 if outcome.conclusion == 'success' else 1
 
 
 def _greet(folder: Folder, config: Config) -> None:
