@@ -14,7 +14,7 @@ from typing import Any
 
 import pytest
 from harness import HubProcess, Service, body_of
-from runner_trials import Host, kill_all, lines_of, mirror, text_of_log, until
+from runner_trials import Host, kill_all, lines_of, until
 from wires import Wire
 
 LINE = re.compile(r'[0-9]{4}-[0-9]{2}-[0-9]{2}T[0-9]{2}:[0-9]{2}:[0-9]{2}\.[0-9]{7}Z ')
@@ -455,14 +455,13 @@ def test_steps_that_are_killed_leave_their_log(alone: Site) -> None:
 
 
 def test_a_full_disk_of_the_hub_stops_no_run(make_hub: Callable[..., HubProcess], tmp_path: pathlib.Path) -> None:
-    small = tmp_path / 'small'
-    small.mkdir()
+    small = tmp_path / 'hub-0' / 'state'  # of the hub that is made below
+    small.mkdir(parents=True)
     if subprocess.run(['mount', '-t', 'tmpfs', '-o', 'size=3m', 'tmpfs', str(small)], capture_output=True, check=False).returncode:
         pytest.skip('no mount is allowed here')
     try:
-        hub = make_hub(tables={'hub': {'folder': str(small)}})
-        site = Site(tmp_path, hub)
-        site.token = hub.token('x', 'runner', prefix='', labels=(site.label,))
+        site = Site(tmp_path, make_hub())
+        assert site.hub.state == small
         run = site.admit({'run': PRINTS.format(site.folder)})
         (site.folder / 'go').touch()
         with contextlib.suppress(OSError), open(small / 'filler', 'wb') as filler:
@@ -471,12 +470,9 @@ def test_a_full_disk_of_the_hub_stops_no_run(make_hub: Callable[..., HubProcess]
         host = site.host().start(pause=0.5)
         until(lambda: site.service.run(run)['conclusion'] == 'success')
         os.remove(small / 'filler')
-
-        def lines() -> list[str]:
-            return [line for file in small.glob(f'logs/*/{run}/1/build.0.*.log') for line in text_of_log(str(file)) if line.startswith('line ')]
-        until(lambda: lines() == ALL, 90)
+        until(lambda: numbered(site, run) == ALL, 90)
         host.kill()
-        hub.kill()
+        site.hub.kill()
     finally:
         subprocess.run(['umount', '-l', str(small)], check=True)
 
