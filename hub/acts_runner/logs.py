@@ -19,6 +19,7 @@ from .commands import Command, annotation_of, command_in
 LONGEST_LINE = 1 << 20
 MAX_ANNOTATIONS = 100  # of a leg
 MAX_SUMMARY = 1 << 20  # bytes of the summary of a step, as at GitHub
+SENT_SUMMARY = 1 << 18  # bytes of it that go to the hub
 LEFT_OUT = b'the rest of this log is left out, since it is too long\n'
 
 
@@ -118,8 +119,8 @@ class Log:
     def mark(self, **members: Any) -> None:
         """Writes a mark, with the present end of the log."""
         with self.lock, contextlib.suppress(OSError):
-            text = json.dumps(self.hidden({**members, 'at': milliseconds(), 'bytes': self.size}))
-            self.marks.write(text.encode() + b'\n')
+            text = json.dumps(self.hidden({**members, 'at': milliseconds(), 'bytes': self.size}), ensure_ascii=False)
+            self.marks.write(text.encode(errors='replace') + b'\n')
 
     def hidden(self, value: Any) -> Any:
         """A value with its texts masked."""
@@ -141,7 +142,7 @@ class Log:
             return
         with contextlib.suppress(OSError), open(self.path + '.summary.md', 'a', encoding='utf-8') as file:
             file.write(text)
-        self.mark(summary=text, step=step)
+        self.mark(summary=text.encode()[:SENT_SUMMARY].decode(errors='ignore'), step=step)
 
 
 class Reader(threading.Thread):

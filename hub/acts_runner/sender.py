@@ -15,6 +15,7 @@ from .logs import milliseconds
 from .options import Options
 
 PIECE = 1 << 18  # bytes
+LONGEST_MARK = (1 << 21) - 1  # bytes of a line of marks
 PAUSE = 0.25  # seconds between two looks
 SECONDS_AT_END = 30
 
@@ -119,9 +120,9 @@ class Sender(threading.Thread):
         while at < end:
             with open(path, 'rb') as file:
                 file.seek(at)
-                piece = file.read(min(PIECE, end - at))
+                piece = file.read(min(PIECE if kind == 'logs' else LONGEST_MARK, end - at))
             if kind == 'marks':
-                piece = piece[:piece.rfind(b'\n') + 1] or piece
+                piece = whole_lines(piece)
             if not piece:
                 break
             now = self.put(leg, kind, at, piece)
@@ -164,3 +165,9 @@ class Sender(threading.Thread):
                 print(words, file=file)
         except OSError:
             pass
+
+
+def whole_lines(data: bytes) -> bytes:
+    """As many whole lines as a piece may have, at least one if there is one; a line without an end is left for later."""
+    end = data.rfind(b'\n', 0, PIECE) + 1 or data.find(b'\n') + 1
+    return data[:end] if end or len(data) < LONGEST_MARK else data

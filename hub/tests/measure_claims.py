@@ -1,4 +1,4 @@
-"""How long a line of a runner takes through the hub, and how long without it: medians over 300 of each, in turns.
+"""How long a line of a runner takes through the hub, and how long without it: medians over 100 of each, in turns.
 
     ACTS=PROGRAM tests/measure_claims.py"""
 from __future__ import annotations
@@ -15,7 +15,7 @@ sys.path.insert(0, os.path.dirname(os.path.abspath(__file__)))
 from harness import HubProcess, Service, body_of
 from wires import Wire
 
-COUNT = 300
+COUNT = 100
 
 
 def took(call: Callable[[], object]) -> float:

@@ -238,6 +238,16 @@ def test_annotations_and_summaries(site: Site) -> None:
     assert summary.read_text() == '# Done\n'
 
 
+def test_a_long_summary(site: Site) -> None:
+    """It reaches the hub cut, and holds up nothing that comes after it; one over a mebibyte is left out with a word, as at GitHub."""
+    run = site.admit({'run': 'head -c 900000 /dev/zero | tr "\\0" x >> "$GITHUB_STEP_SUMMARY"'},
+                     {'run': 'head -c 1100000 /dev/zero | tr "\\0" y >> "$GITHUB_STEP_SUMMARY"; echo "::notice::after"'})
+    site.run()
+    assert [one['message'] for one in site.annotations(run)] == ['after']
+    assert 'the summary is left out: it has over 1048576 bytes' in site.said(run)
+    assert site.steps(run)[-1] == (4, 'Complete job', 'success')
+
+
 @pytest.mark.quick
 def test_outputs_of_the_same_attempt(site: Site) -> None:
     """A second attempt does not see the first one's, also where the job before ends without any."""
@@ -352,6 +362,11 @@ def test_only_the_holder_writes(site: Site) -> None:
             assert one.put(kind, place, data, 'CLAIM p1 1 x', **query).status == 403, kind
             assert one.put(kind, place, data, 'nonsense', **query).status == 400, kind
             assert site.hub.request('PUT', f'/runner/v1/{kind}/{place}', data).status == 401, kind
+        again = Wire(site.hub, site.token)
+        with contextlib.closing(again):
+            forged = mine.rpartition(',')[0] + ',life-000000000000'
+            assert again.put('logs', place, b'x\n', forged, offset=35).status == 403, 'the name of the holder, and another claim'
+            assert site.log(run), 'the log is as it was'
         assert one.get(f'artifacts/{foreign}/1/build/0/{other}', mine).status == 403
         assert one.get(f'legs/{foreign}/{other}', mine).status == 403
         assert one.get(f'legs/{run}/{lease}', mine).json()['attempt'] == 1
@@ -384,6 +399,14 @@ def test_pieces_are_bounded_and_idempotent(site: Site) -> None:
             size = one.put('marks', place, b'', claim, offset=0).json()['size']
             assert one.put('marks', place, marks, claim, offset=size).json()['size'] == size + len(marks)
         assert site.steps(run) == []
+        many = b''.join(json.dumps({'annotation': {'message': 'ä' * 4000, 'annotation_level': 'failure'}, 'at': 1, 'bytes': 0}).encode() + b'\n'
+                        for _ in range(60)) + json.dumps({'summary': '\U0001f600' * 60_000, 'at': 1, 'bytes': 0}).encode() + b'\n'
+        begin = at = one.put('marks', place, b'', claim, offset=0).json()['size']
+        while at < begin + len(many):
+            answer = one.put('marks', place, many[at - begin:][:900_000], claim, offset=at)
+            assert answer.status == 200 and answer.json()['size'] > at, answer
+            at = answer.json()['size']
+        assert 20 < len(site.annotations(run)) <= 100, 'what is too long a note is left out'
         one.done('p2', lease)
 
 

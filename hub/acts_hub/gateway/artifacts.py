@@ -2,12 +2,11 @@
 from __future__ import annotations
 
 import asyncio
-import hashlib
 import re
 
 from aiohttp import web
 
-from ..ledger.artifacts import ArtifactError, ArtifactStore
+from ..ledger.artifacts import Artifact, ArtifactError, ArtifactStore, Upload
 from .legs import Legs, number_in
 
 NAME = re.compile(r'[^":<>|*?\r\n\\/\0]{1,255}')
@@ -35,11 +34,10 @@ class Artifacts:
             upload = self.store.begin(lease.run, lease.attempt, name, overwrite=request.query.get('overwrite') == '1')
         except ArtifactError as fault:
             raise web.HTTPConflict(text=str(fault)) from None
-        loop = asyncio.get_running_loop()
+        except OSError as fault:
+            raise web.HTTPServiceUnavailable(text=f'the artifact can not be kept: {fault.strerror}') from None
         try:
-            async for piece in request.content.iter_chunked(PIECE):
-                await loop.run_in_executor(None, upload.write, piece)
-            made = await loop.run_in_executor(None, upload.finish, digest)
+            made = await filled(request, upload, digest)
         except ArtifactError as fault:
             raise web.HTTPUnprocessableEntity(text=str(fault)) from None
         except OSError as fault:
@@ -65,6 +63,9 @@ class Artifacts:
         return web.FileResponse(path, headers={'Content-Type': 'application/zip', 'X-Acts-Digest': found.digest.rpartition(':')[2]})
 
 
-def digest_of(data: bytes) -> str:
-    """The digest by which a body is compared."""
-    return hashlib.sha256(data).hexdigest()
+async def filled(request: web.Request, upload: Upload, digest: str) -> Artifact:
+    """Writes the body of a request."""
+    loop = asyncio.get_running_loop()
+    async for piece in request.content.iter_chunked(PIECE):
+        await loop.run_in_executor(None, upload.write, piece)
+    return await loop.run_in_executor(None, upload.finish, digest)

@@ -10,7 +10,7 @@ from collections.abc import Awaitable, Callable
 from aiohttp import web
 
 from ..config import Config
-from ..ledger.caches import CacheStore
+from ..ledger.caches import Cache, CacheStore, CacheUpload
 from .leases import Lease
 from .legs import Legs, number_in
 
@@ -74,18 +74,26 @@ class Caches:
         lease = await self.legs.leg(request)
         keys, version = self.asked(request)
         digest = request.query.get('digest', '')
-        upload = self.store.begin(lease.repository, (await self.scopes(lease))[0], keys[0], version)
-        if upload is None:
-            raise web.HTTPConflict(text='there is a cache of this key already')
-        loop = asyncio.get_running_loop()
+        if not VERSION.fullmatch(digest):
+            raise web.HTTPBadRequest(text='digest is the SHA-256 of the cache')
         try:
-            async for piece in request.content.iter_chunked(PIECE):
-                await loop.run_in_executor(None, upload.write, piece)
-            made = await loop.run_in_executor(None, upload.finish, digest or None)
+            upload = self.store.begin(lease.repository, (await self.scopes(lease))[0], keys[0], version)
+            if upload is None:
+                raise web.HTTPConflict(text='there is a cache of this key already')
+            made = await filled(request, upload, digest)
         except OSError as fault:
             raise web.HTTPServiceUnavailable(text=f'the cache can not be kept: {fault.strerror}') from None
         except ValueError as fault:
             raise web.HTTPUnprocessableEntity(text=str(fault)) from None
-        finally:
-            upload.abandon()
         return web.json_response({'id': made.id}, status=201)
+
+
+async def filled(request: web.Request, upload: CacheUpload, digest: str) -> Cache:
+    """Writes the body of a request."""
+    loop = asyncio.get_running_loop()
+    try:
+        async for piece in request.content.iter_chunked(PIECE):
+            await loop.run_in_executor(None, upload.write, piece)
+        return await loop.run_in_executor(None, upload.finish, digest)
+    finally:
+        upload.abandon()

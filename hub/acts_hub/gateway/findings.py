@@ -5,8 +5,8 @@ import json
 from collections.abc import Mapping
 from typing import Any
 
-from ..ledger.logs import OUTCOMES, LogError, LogStore
-from ..ledger.notes import NoteStore
+from ..ledger.logs import OUTCOMES, LogStore
+from ..ledger.notes import MAX_VALUE, NoteStore
 from .leases import Lease
 
 KIND = 'marks'
@@ -53,7 +53,7 @@ class Findings:
         if offset > size or offset + len(data) <= size:
             return size
         whole = data[size - offset:]
-        whole = whole[:whole.rfind(b'\n') + 1] if len(whole) < MAX_MARK else whole
+        whole = whole[:whole.rfind(b'\n') + 1] or (whole if len(whole) >= MAX_MARK - 1 else b'')
         if not whole:
             return size
         found = self.of_leg(lease.run, lease.attempt, lease.job, lease.leg)
@@ -66,6 +66,7 @@ class Findings:
             if isinstance(mark, dict):
                 self.mark(lease, noted, mark)
         noted['size'] = size + len(whole)
+        shorten(noted)
         self.notes.set(lease.run, lease.attempt, KIND, f'{lease.job}/{lease.leg}', noted)
         return size + len(whole)
 
@@ -106,6 +107,13 @@ class Findings:
                 self.logs.step_end(*lease.place, step.number, 'failure', offset, at)
 
 
+def shorten(noted: dict[str, Any]) -> None:
+    """Leaves out the last summaries, and then annotations, of what would be too long a note."""
+    for name in ('summaries', 'annotations'):
+        while noted.get(name) and len(json.dumps(noted)) > MAX_VALUE - 1000:
+            noted[name].pop()
+
+
 def is_number(value: object) -> bool:
     """Whether a value of JSON is a whole number that the ledger takes."""
     return isinstance(value, int) and not isinstance(value, bool) and 0 <= value < 1 << 53
@@ -119,5 +127,3 @@ def annotation_of(given: Mapping[str, Any], step: int | None) -> dict[str, Any]:
     level = given.get('annotation_level')
     return {**made, 'annotation_level': level if level in LEVELS else 'notice', 'step': step, 'message': made['message'] or ''}
 
-
-__all__ = ['Findings', 'LogError']

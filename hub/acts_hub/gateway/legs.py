@@ -59,7 +59,9 @@ class Legs:
         claim = claim_of(request, identity)
         run, number = number_in(request, 'run'), number_in(request, 'lease')
         found = self.leases.get(run, number)
-        if found is None or found.claim != str(claim):
+        if found is not None and found.claim != str(claim):  # only a claim that passes as a line takes the place of another
+            raise web.HTTPForbidden(text='the lease was got by another claim')
+        if found is None:
             found = await self.leases.taken_up(run, number, claim)
             if found is None or not await self.leases.holds(claim.runner, lease=number):
                 raise web.HTTPForbidden(text='the runner does not hold this lease')

@@ -6,7 +6,7 @@ from aiohttp import web
 from ..ledger.database import Database
 from ..ledger.logs import LogError, LogStore
 from .findings import MAX_MARK, Findings
-from .legs import DIGITS, Legs, written
+from .legs import Legs, written
 
 MAX_PIECE = 1 << 20  # bytes
 
@@ -57,5 +57,3 @@ class Logs:
             await written(self.database)
         return web.json_response({'size': size})
 
-
-__all__ = ['DIGITS', 'Logs']
