@@ -27,6 +27,9 @@ from .service.mirror import Mirror
 from .service.view import ViewPort
 
 
+LEDGER_SECONDS = 5
+
+
 class Hub:
     """All parts. Requests have it as `request.app['hub']`."""
 
@@ -58,7 +61,7 @@ class Hub:
             self.folder.mkdir(mode=0o700, parents=True, exist_ok=True)
         except OSError as fault:
             say(f'the folder {self.folder} can not be made: {fault.strerror}')
-        self.database.open()
+        await asyncio.to_thread(self.database.open, LEDGER_SECONDS)
         self._tasks += [asyncio.create_task(self.mirror.follow(), name='mirror'), asyncio.create_task(Retention(self).watch(), name='retention')]
         for part in self.events, self.gateway:
             if part is not None:

@@ -71,6 +71,40 @@ def test_a_lock_of_another_holds_up_nobody(made: Database) -> None:
 
 
 @pytest.mark.quick
+def test_a_file_that_is_locked_at_the_start_is_waited_for_and_then_done_without(tmp_path: pathlib.Path) -> None:
+    path = tmp_path / 'ledger.sqlite'
+    first = Database(path)
+    first.open()
+    first.write_now([(ADD, ('before', '1'))])
+    first.close()
+    with contextlib.closing(sqlite3.connect(path, isolation_level=None)) as other:
+        other.execute('pragma locking_mode = exclusive')
+        other.execute('begin exclusive')
+        waiting = Database(path)
+        without = Database(path)
+        without.open()
+        assert not without.is_file and value(without, 'before') is None and without.fault is not None and 'locked' in without.fault
+        without.write(ADD, ('while', '1'))
+        other.execute('rollback')
+    waiting.open(10)
+    assert waiting.is_file and value(waiting, 'before') == '1'
+    assert without.flushed() and value(without, 'before') == value(waiting, 'while') == '1' and without.fault is None
+    waiting.close()
+    without.close()
+
+
+@pytest.mark.quick
+def test_a_file_that_comes_later_is_opened_without_a_write(tmp_path: pathlib.Path) -> None:
+    one = Database(tmp_path / 'nowhere' / 'ledger.sqlite')
+    one.open()
+    assert not one.is_file
+    (tmp_path / 'nowhere').mkdir()
+    until(lambda: one.is_file)
+    assert one.fault is None and value(one, 'tokens') == '0'
+    one.close()
+
+
+@pytest.mark.quick
 def test_writes_that_wait_are_bounded(tmp_path: pathlib.Path, monkeypatch: pytest.MonkeyPatch) -> None:
     monkeypatch.setattr(module, 'MAX_WAITING', 10)
     one = Database(tmp_path / 'nowhere' / 'ledger.sqlite')

@@ -26,6 +26,8 @@ class LedgerError(Exception):
 
 def migrate(connection: sqlite3.Connection) -> None:
     """Brings the tables to the present version."""
+    if connection.execute('pragma user_version').fetchone() == (len(STEPS),):
+        return
     connection.execute('begin immediate')
     try:
         version = int(connection.execute('pragma user_version').fetchone()[0])
@@ -97,17 +99,21 @@ class Database:
         self._writer: sqlite3.Connection | None = None
         self._thread: threading.Thread | None = None
 
-    def open(self) -> None:
-        """Opens the file, and begins to write. If the file can't be had, the hub goes on from memory, and it is tried again."""
-        if not self._opened():
-            self._reader = connect(None)
+    def open(self, seconds: float = 0) -> None:
+        """Opens the file, and begins to write. If it can't be had in these seconds, the hub goes on from memory, and it is tried again."""
+        late = time.monotonic() + seconds
+        while not self._opened():
+            if time.monotonic() >= late:
+                self._reader = connect(None)
+                break
+            time.sleep(0.2)
         self._thread = threading.Thread(target=self._write_forever, name='ledger', daemon=True)
         self._thread.start()
 
     def _opened(self) -> bool:
         try:
             self._writer = connect(self.path)
-            reader = connect(self.path)
+            reader = connect(self.path, 0.1)
         except sqlite3.DatabaseError as fault:
             if isinstance(fault, sqlite3.OperationalError) or not self._moved_aside(fault):
                 self._say(f'the ledger {self.path} can not be opened: {fault}')
@@ -189,11 +195,11 @@ class Database:
         while True:
             with self._wake:
                 is_idle = not self._waiting
-                while not self._waiting and not self._ending:
+                while not self._waiting and not self._ending and self._writer is not None:
                     self._wake.wait(1)
                 if not self._waiting and self._ending:
                     return
-            if is_idle:
+            if is_idle and self._writer is not None:
                 time.sleep(GATHER_SECONDS)                  # what is written at about the same time is one transaction
             with self._wake:
                 batch = [self._waiting[index] for index in range(min(BATCH, len(self._waiting)))]
@@ -211,6 +217,8 @@ class Database:
             return False
         writer = self._writer
         assert writer is not None
+        if not batch:
+            return True
         try:
             writer.execute('begin immediate')
             for _, statements in batch:
