@@ -36,21 +36,28 @@ def sha(text: object) -> str:
     return hashlib.sha1(str(text).encode()).hexdigest()
 
 
-def run_of(number: int, *, status: str = 'completed', conclusion: str | None = 'success', repository: str = 'octo/hello', path: str = PATH,
-           workflow: str = 'CI', event: str = 'push', attempt: int = 1, number_of: int | None = None, **facts: Any) -> Run:
+def run_of(number: int, *, status: str = 'completed', conclusion: str | None = 'success',
+           repository: str = 'octo/hello', path: str = PATH,
+           workflow: str = 'CI', event: str = 'push', attempt: int = 1, number_of: int | None = None,
+           **facts: Any) -> Run:
     """A run."""
-    given: dict[str, Any] = {'sha': sha(number), 'branch': 'main', 'actor': 'mona', 'title': f'Change {number}', 'message': f'Change {number}\n\nMore.',
+    given: dict[str, Any] = {'sha': sha(number), 'branch': 'main', 'actor': 'mona', 'title': f'Change {number}',
+                             'message': f'Change {number}\n\nMore.',
                              'author': 'Mona', 'author_email': 'mona@example.org', **facts}
     skipped = conclusion == 'skipped'
-    row = Row(number, number_of or number, attempt, repository, path, workflow, event, f'd{number}', 'refs/heads/main', status,
+    row = Row(number, number_of or number, attempt, repository, path, workflow, event, f'd{number}', 'refs/heads/main',
+              status,
               ('success' if skipped else conclusion) if status == 'completed' else None, None)
     at = T0 + number * 1000
-    return Run(row, Facts(**given), at, at + 5000 * (attempt - 1), at + 60_000, at + 60_000 if status == 'completed' else None, None, '', skipped=skipped)
+    return Run(row, Facts(**given), at, at + 5000 * (attempt - 1), at + 60_000,
+               at + 60_000 if status == 'completed' else None, None, '', skipped=skipped)
 
 
-def leg_of(state: str | None = 'success', index: int = 0, lease: int | None = 7, runner: str | None = 'r1', **more: Any) -> Leg:
+def leg_of(state: str | None = 'success', index: int = 0, lease: int | None = 7, runner: str | None = 'r1',
+           **more: Any) -> Leg:
     """A leg."""
-    given: dict[str, Any] = {'combination': {}, 'labels': ('linux',), 'group': None, 'waits_for': None, 'started_at': T0 + 10_000, 'ended_at': T0 + 30_000, **more}
+    given: dict[str, Any] = {'combination': {}, 'labels': ('linux',), 'group': None, 'waits_for': None,
+                             'started_at': T0 + 10_000, 'ended_at': T0 + 30_000, **more}
     return Leg(index, state=state, lease=lease, runner=runner, **given)
 
 
@@ -86,13 +93,16 @@ class MirrorByHand:
         return run
 
     def of(self, repository: str) -> Runs:
-        return Runs([number for number, run in self.runs.items() if run.row.repository.lower() == repository.lower()], self.runs)
+        return Runs([number for number, run in self.runs.items() if run.row.repository.lower() == repository.lower()],
+                    self.runs)
 
     def select(self, repository: str, **asked: str | None) -> Runs:
-        return Runs([run.id for run in self.of(repository) if all(value in (None, self._value(run, name)) for name, value in asked.items())], self.runs)
+        return Runs([run.id for run in self.of(repository)
+                     if all(value in (None, self._value(run, name)) for name, value in asked.items())], self.runs)
 
     def _value(self, run: Run, name: str) -> str | None:
-        found: str | None = getattr(run.facts if name in ('branch', 'actor', 'sha') else run if name == 'conclusion' else run.row, name)
+        found: str | None = getattr(run.facts if name in ('branch', 'actor', 'sha') else run
+                                    if name == 'conclusion' else run.row, name)
         return found
 
     def repositories(self) -> list[str]:
@@ -161,7 +171,8 @@ class Stand:
     tokens: dict[str, str]
     port: int = 0
 
-    def ask(self, method: str, path: str, token: str | None = 'write', body: Any = None, headers: dict[str, str] | None = None) -> Answer:
+    def ask(self, method: str, path: str, token: str | None = 'write', body: Any = None,
+            headers: dict[str, str] | None = None) -> Answer:
         """A request below `/api/v3`, with the token of this kind, or this text as a token."""
         text = self.tokens.get(token, token) if token else None
         given = {**({'Authorization': f'token {text}'} if text else {}), **(headers or {})}
@@ -206,14 +217,16 @@ class Stand:
 @contextlib.contextmanager
 def standing(folder: pathlib.Path, access: AccessConfig = UNLIMITED) -> Iterator[Stand]:
     """A hub that serves on a free port of loopback."""
-    config = Config(hub=HubConfig(url='https://hub.example:8443', folder=folder), repositories=(RepositoryConfig('octo/empty'),),
+    config = Config(hub=HubConfig(url='https://hub.example:8443', folder=folder),
+                    repositories=(RepositoryConfig('octo/empty'),),
                     access=access)
     hub, mirror, hooks = Hub(config), MirrorByHand(), HooksByHand()
     hub.mirror, hub.hooks = mirror, hooks  # type: ignore[assignment]
     hub.artifacts, hub.caches = ArtifactsByHand(folder), CachesByHand()  # type: ignore[assignment]
     hub.database.open()
     create = hub.access.tokens.create
-    tokens = {'read': create('reader', Right.READ), 'write': create('mona', Right.WRITE), 'admin': create('boss', Right.ADMIN),
+    tokens = {'read': create('reader', Right.READ), 'write': create('mona', Right.WRITE),
+              'admin': create('boss', Right.ADMIN),
               'other': create('other', Right.WRITE, ('other/*',)), 'octo': create('octo', Right.READ, ('octo/*',)),
               'runner': create('host', Right.RUNNER, prefix='r', labels=('linux',))}
     stand, ready, loop = Stand(hub, mirror, hooks, tokens), threading.Event(), asyncio.new_event_loop()

@@ -29,7 +29,8 @@ on:
 jobs:
   go: {runs-on: linux, steps: [{run: 'echo ${{ inputs.where }}'}]}
 '''
-BUILD = {'build': {'runs-on': 'linux', 'steps': [{'name': 'Compile', 'run': 'echo compiled'}, {'name': 'Test', 'run': 'exit 3'}]}}
+BUILD = {'build': {'runs-on': 'linux',
+                   'steps': [{'name': 'Compile', 'run': 'echo compiled'}, {'name': 'Test', 'run': 'exit 3'}]}}
 
 
 @dataclass
@@ -49,13 +50,17 @@ class Desk:
 
     def env(self, token: str = 'write') -> dict[str, str]:
         """The environment of `gh`: nothing of this machine's own settings."""
-        return {'PATH': os.environ['PATH'], 'HOME': str(self.home), 'TMPDIR': str(self.home), 'GH_HOST': f'localhost:{self.hub.port}', 'NO_COLOR': '1',
-                'GH_ENTERPRISE_TOKEN': self.tokens.get(token, token), 'GH_REPO': self.repository, 'SSL_CERT_FILE': str(self.hub.ca),
+        return {'PATH': os.environ['PATH'], 'HOME': str(self.home), 'TMPDIR': str(self.home),
+                'GH_HOST': f'localhost:{self.hub.port}', 'NO_COLOR': '1',
+                'GH_ENTERPRISE_TOKEN': self.tokens.get(token, token), 'GH_REPO': self.repository,
+                'SSL_CERT_FILE': str(self.hub.ca),
                 'GH_PROMPT_DISABLED': '1', 'GH_NO_UPDATE_NOTIFIER': '1'}
 
-    def gh(self, *words: object, token: str = 'write', env: Mapping[str, str] | None = None) -> subprocess.CompletedProcess[str]:
+    def gh(self, *words: object, token: str = 'write',
+           env: Mapping[str, str] | None = None) -> subprocess.CompletedProcess[str]:
         """Runs `gh`."""
-        return subprocess.run(['gh', *map(str, words)], cwd=self.home, env={**self.env(token), **(env or {})}, capture_output=True, text=True, timeout=120)
+        return subprocess.run(['gh', *map(str, words)], cwd=self.home, env={**self.env(token), **(env or {})},
+                              capture_output=True, text=True, timeout=120)
 
     def says(self, *words: object, status: int = 0, token: str = 'write') -> str:
         """What `gh` prints, on both streams, when it ends with this status."""
@@ -91,10 +96,14 @@ class Desk:
         place, claim = f'{run}/{attempt}/build/0/{lease}', self.wire.claims[lease]
         first, second = b'2026-11-30T19:30:11.000Z compiled\n', b'2026-11-30T19:30:12.000Z a lot went on\n'
         ends = len(first), len(first + second)
-        marks = [{'step': 1, 'begins': True, 'name': 'Compile', 'bytes': 0}, {'step': 1, 'ends': True, 'conclusion': 'success', 'bytes': ends[0]},
+        marks = [{'step': 1, 'begins': True, 'name': 'Compile', 'bytes': 0},
+                 {'step': 1, 'ends': True, 'conclusion': 'success', 'bytes': ends[0]},
                  {'step': 2, 'begins': True, 'name': 'Test', 'bytes': ends[0]},
-                 {'step': 2, 'bytes': ends[0], 'annotation': {'annotation_level': 'failure', 'message': 'wrong by one', 'path': 'src/a.py', 'start_line': 7}},
-                 {'step': 2, 'ends': True, 'conclusion': outcome, 'bytes': ends[1]}, {'complete': True, 'bytes': ends[1]}]
+                 {'step': 2, 'bytes': ends[0],
+                  'annotation': {'annotation_level': 'failure', 'message': 'wrong by one', 'path': 'src/a.py',
+                                 'start_line': 7}},
+                 {'step': 2, 'ends': True, 'conclusion': outcome, 'bytes': ends[1]},
+                 {'complete': True, 'bytes': ends[1]}]
         assert self.wire.put('logs', place, first + second, claim, offset=0).status == 200
         text = ''.join(json.dumps({**mark, 'at': now()}) + '\n' for mark in marks)
         assert self.wire.put('marks', place, text.encode(), claim, offset=0).status == 200
@@ -161,7 +170,8 @@ def test_auth_status(desk: Desk) -> None:
 
 
 def test_run_list_with_its_filters(desk: Desk) -> None:
-    first = desk.admit(body_of('CI', BUILD, message='Say it\n\nMore', github={'ref_name': 'topic/a', 'ref': 'refs/heads/topic/a', 'actor': 'hubot'}))
+    first = desk.admit(body_of('CI', BUILD, message='Say it\n\nMore',
+                               github={'ref_name': 'topic/a', 'ref': 'refs/heads/topic/a', 'actor': 'hubot'}))
     desk.finish(first, 'failure')
     second = desk.admit(body_of('Lint', path='.github/workflows/lint.yml', message='Lint it'))
     said = desk.says('run', 'list')
@@ -173,11 +183,16 @@ def test_run_list_with_its_filters(desk: Desk) -> None:
         return {run['databaseId'] for run in desk.json('run', 'list', '--limit', 100, '--json', 'databaseId', *words)}
     assert first in ids('--branch', 'topic/a') and second not in ids('--branch', 'topic/a')
     assert first in ids('--user', 'hubot') and second not in ids('--user', 'hubot')
-    assert second in ids('--workflow', 'lint.yml') and first not in ids('--workflow', 'Lint') and second in ids('--workflow', 'Lint')
-    found, = [run for run in desk.json('run', 'list', '--json', 'conclusion,createdAt,databaseId,displayTitle,event,headBranch,headSha,name,number,startedAt,status,'
-                                                                'updatedAt,url,workflowDatabaseId,workflowName') if run['databaseId'] == first]
-    assert (found['conclusion'], found['displayTitle'], found['headBranch'], found['workflowName'], found['event']) == ('failure', 'Say it', 'topic/a', 'CI', 'push')
-    assert found['url'] == f'https://localhost:{desk.hub.port}/{REPO}/actions/runs/{first}' and not found['createdAt'].startswith('0001')
+    assert second in ids('--workflow',
+                         'lint.yml') and first not in ids('--workflow', 'Lint') and second in ids('--workflow', 'Lint')
+    found, = [run for run in desk.json('run', 'list', '--json',
+                                       'conclusion,createdAt,databaseId,displayTitle,event,headBranch,headSha,name,number,startedAt,status,'
+                                                                'updatedAt,url,workflowDatabaseId,workflowName')
+                                                                if run['databaseId'] == first]
+    assert (found['conclusion'], found['displayTitle'], found['headBranch'], found['workflowName'],
+            found['event']) == ('failure', 'Say it', 'topic/a', 'CI', 'push')
+    assert found['url'] == f'https://localhost:{desk.hub.port}/{REPO}/actions/runs/{first}' and not found[
+        'createdAt'].startswith('0001')
 
 
 def test_run_view_log_and_job(desk: Desk) -> None:
@@ -190,16 +205,21 @@ def test_run_view_log_and_job(desk: Desk) -> None:
     assert 'X Test' in desk.says('run', 'view', '--job', job) and 'X Test' in desk.says('run', 'view', run, '--verbose')
     desk.says('run', 'view', run, '--exit-status', status=1)
     lines = desk.says('run', 'view', run, '--log').splitlines()
-    assert [line.split('\t')[:2] for line in lines] == [['build', 'Compile'], ['build', 'Test']] and lines[0].endswith('Z compiled')
-    assert [line.split('\t')[1:] for line in desk.says('run', 'view', run, '--log-failed').splitlines()] == [['Test', '2026-11-30T19:30:12.000Z a lot went on']]
+    assert [line.split('\t')[:2] for line in lines] == [['build', 'Compile'],
+                                                        ['build', 'Test']] and lines[0].endswith('Z compiled')
+    assert [line.split('\t')[1:] for line in desk.says('run', 'view', run,
+                                                       '--log-failed').splitlines()] == [['Test',
+                                                                                          '2026-11-30T19:30:12.000Z a lot went on']]
     assert 'a lot went on' in desk.says('run', 'view', '--job', job, '--log')
     found = desk.json('run', 'view', run, '--json', 'jobs,conclusion')
-    assert [(one['name'], one['conclusion'], [step['name'] for step in one['steps']]) for one in found['jobs']] == [('build', 'failure', ['Compile', 'Test'])]
+    assert [(one['name'], one['conclusion'], [step['name'] for step in one['steps']])
+            for one in found['jobs']] == [('build', 'failure', ['Compile', 'Test'])]
 
 
 def test_a_run_of_skipped_jobs_is_skipped(desk: Desk) -> None:
     """GitHub Docs, "Using conditions to control job execution": a job whose condition is false is skipped."""
-    run = desk.admit(body_of('Skipped', {'a': {'runs-on': 'linux', 'if': False}, 'b': {'runs-on': 'linux', 'needs': 'a'}}))
+    run = desk.admit(body_of('Skipped',
+                             {'a': {'runs-on': 'linux', 'if': False}, 'b': {'runs-on': 'linux', 'needs': 'a'}}))
     until(lambda: desk.api(f'actions/runs/{run}')['conclusion'] == 'skipped', what='the conclusion')
     assert f'completed\tskipped\tSay hello\tSkipped\tmain\tpush\t{run}\t' in desk.says('run', 'list')
     assert run in [one['id'] for one in desk.api('actions/runs?status=skipped')['workflow_runs']]
@@ -217,7 +237,8 @@ def test_run_watch(desk: Desk) -> None:
     desk.log(run, 1, lease, 'success')
     output = desk.home / 'watch.out'
     with open(output, 'wb') as file:
-        watching = subprocess.Popen(['gh', 'run', 'watch', str(run), '-i', '1', '--exit-status'], cwd=desk.home, env=desk.env(), stdout=file, stderr=file)
+        watching = subprocess.Popen(['gh', 'run', 'watch', str(run), '-i', '1', '--exit-status'], cwd=desk.home,
+                                    env=desk.env(), stdout=file, stderr=file)
     try:
         until(lambda: 'build' in output.read_text(), what='the first look')
         desk.done(run, lease)
@@ -249,7 +270,8 @@ def test_run_rerun(desk: Desk) -> None:
     found = desk.api(f'actions/runs/{run}')
     assert (found['run_attempt'], found['conclusion'], found['triggering_actor']['login']) == (2, 'success', 'mona')
     after = desk.api(f'actions/runs/{run}/attempts/1/jobs')['jobs']
-    assert [(one['name'], one['conclusion'], one['runner_name']) for one in after] == [('build', 'failure', 'by-hand')] == [
+    assert [(one['name'], one['conclusion'], one['runner_name'])
+            for one in after] == [('build', 'failure', 'by-hand')] == [
         (one['name'], one['conclusion'], one['runner_name']) for one in before]
     assert '✓ build in' in desk.says('run', 'view', run)
     assert [one['run_attempt'] for one in desk.api(f'actions/runs/{run}/jobs?filter=all')['jobs']] == [1, 2]
@@ -266,7 +288,8 @@ def test_rerun_of_what_the_service_can_t_says_so(desk: Desk) -> None:
 def test_workflows(desk: Desk) -> None:
     run = desk.admit(body_of('Deploy', path='.github/workflows/deploy.yml'))
     until(lambda: 'Deploy\tactive\t' in desk.says('workflow', 'list'), what='the workflow')
-    assert f'\t{run}' in desk.says('workflow', 'view', 'deploy.yml') and 'Deploy' in desk.says('workflow', 'view', 'Deploy')
+    assert f'\t{run}' in desk.says('workflow', 'view',
+                                   'deploy.yml') and 'Deploy' in desk.says('workflow', 'view', 'Deploy')
     assert '"runs-on": "linux"' in desk.says('workflow', 'view', 'deploy.yml', '--yaml')
     assert 'as long as' in desk.says('workflow', 'disable', 'deploy.yml', status=1)
     assert desk.says('workflow', 'view', 'by_hand.yml', '--yaml') == BY_HAND  # of the mirror, without a run
@@ -279,11 +302,13 @@ def test_workflow_run(desk: Desk) -> None:
     desk.says('workflow', 'run', 'by_hand.yml', '-f', 'where=production')
     until(lambda: desk.api('actions/runs?event=workflow_dispatch')['total_count'] == before + 1, what='the run')
     run = desk.api('actions/runs?event=workflow_dispatch')['workflow_runs'][0]
-    assert (run['name'], run['head_branch'], run['actor']['login'], run['path']) == ('By hand', 'main', 'mona', '.github/workflows/by_hand.yml')
+    assert (run['name'], run['head_branch'], run['actor']['login'],
+            run['path']) == ('By hand', 'main', 'mona', '.github/workflows/by_hand.yml')
     admitted = json.loads(desk.service.lines().ask(f'FETCH {run["id"]}'))
     assert admitted['inputs'] == {'where': 'production'}
     assert f'\tworkflow_dispatch\t{run["id"]}\t' in desk.says('run', 'list', '--workflow', 'By hand')
-    for words, said in ((('-f', 'where=nowhere'), 'no option nowhere'), (('--ref', 'none'), 'No ref found for'), (('-f', 'other=1'), 'no input other')):
+    for words, said in ((('-f', 'where=nowhere'), 'no option nowhere'), (('--ref', 'none'), 'No ref found for'),
+                        (('-f', 'other=1'), 'no input other')):
         assert said in desk.says('workflow', 'run', 'by_hand.yml', *words, status=1)
     assert 'HTTP 403' in desk.says('workflow', 'run', 'by_hand.yml', token='read', status=1)
     assert desk.api('actions/runs?event=workflow_dispatch')['total_count'] == before + 1
@@ -296,7 +321,8 @@ def test_run_download(desk: Desk) -> None:
     with zipfile.ZipFile(file, 'w') as packed:
         packed.writestr('out/a.txt', 'made\n')
     data = file.getvalue()
-    kept = desk.wire.put('artifacts', f'{run}/1/build/0/{lease}', data, desk.wire.claims[lease], name='things', digest=hashlib.sha256(data).hexdigest())
+    kept = desk.wire.put('artifacts', f'{run}/1/build/0/{lease}', data, desk.wire.claims[lease], name='things',
+                         digest=hashlib.sha256(data).hexdigest())
     assert kept.status == 201, kept
     desk.done(run, lease)
     assert 'things' in desk.says('run', 'view', run)
@@ -309,29 +335,37 @@ def test_run_download(desk: Desk) -> None:
 
 
 def test_pr_checks(desk: Desk) -> None:
-    event = {'pull_request': {'number': 7, 'title': 'A feature', 'head': {'sha': 'b' * 40, 'repo': {'full_name': REPO}}, 'base': {'ref': 'main'}}}
-    run = desk.admit(body_of('CI', BUILD, github={'ref': 'refs/pull/7/merge', 'ref_name': '7/merge', 'head_ref': 'feature', 'base_ref': 'main', 'sha': 'c' * 40,
+    event = {'pull_request': {'number': 7, 'title': 'A feature', 'head': {'sha': 'b' * 40, 'repo': {'full_name': REPO}},
+                              'base': {'ref': 'main'}}}
+    run = desk.admit(body_of('CI', BUILD,
+                             github={'ref': 'refs/pull/7/merge', 'ref_name': '7/merge', 'head_ref': 'feature',
+                                     'base_ref': 'main', 'sha': 'c' * 40,
                                                   'event': event}), 'pull_request')
     assert desk.says('pr', 'checks', 7, status=1).startswith('build\tpending\t')
     desk.finish(run)
     assert desk.says('pr', 'checks', 7).startswith('build\tpass\t')
     assert 'feature CI #7' in desk.says('run', 'view', run)
-    assert desk.api(f'commits/{"b" * 40}/status')['state'] == 'success' and desk.api(f'commits/{"c" * 40}/status') is None
+    assert desk.api(f'commits/{"b" * 40}/status')['state'] == 'success' and desk.api(
+        f'commits/{"c" * 40}/status') is None
     assert 'PullRequest with the number of 99' in desk.says('pr', 'checks', 99, status=1)
 
 
 def test_repo_view(desk: Desk) -> None:
     desk.admit()
     found = desk.json('repo', 'view', desk.repository, '--json', 'name,owner,defaultBranchRef,viewerPermission')
-    assert (found['name'], found['owner']['login'], found['defaultBranchRef'], found['viewerPermission']) == ('hello', 'octo', {'name': 'main'}, 'WRITE')
+    assert (found['name'], found['owner']['login'], found['defaultBranchRef'],
+            found['viewerPermission']) == ('hello', 'octo', {'name': 'main'}, 'WRITE')
     assert f'name:\t{REPO}' in desk.says('repo', 'view', desk.repository)
 
 
 def test_api_with_pages(desk: Desk) -> None:
     for _ in range(3):
         desk.admit()
-    every = [int(word) for word in desk.says('api', f'repos/{REPO}/actions/runs?per_page=2', '--paginate', '--jq', '.workflow_runs[].id').split()]
-    assert len(every) >= 3 and every == sorted(every, reverse=True) and len(set(every)) == len(every) == desk.api('actions/runs')['total_count']
+    every = [int(word) for word in desk.says('api', f'repos/{REPO}/actions/runs?per_page=2', '--paginate', '--jq',
+                                             '.workflow_runs[].id').split()]
+    assert len(every) >= 3 and every == sorted(every,
+                                               reverse=True) and len(set(every)) == len(every) == desk.api(
+                                                   'actions/runs')['total_count']
     assert desk.says('api', 'user', '--jq', '.login') == 'mona\n'
 
 

@@ -50,16 +50,20 @@ def test_the_file_of_a_workflow(stand: Stand) -> None:
     found = stand.json(f'{REPO}/contents/.github/workflows/ci.yml')
     text = base64.b64decode(found['content'])
     assert json.loads(text) == {'name': 'CI', 'jobs': {'build': {'runs-on': 'linux'}}}
-    assert (found['size'], found['encoding'], found['path'], found['type']) == (len(text), 'base64', '.github/workflows/ci.yml', 'file')
+    assert (found['size'], found['encoding'], found['path'],
+            found['type']) == (len(text), 'base64', '.github/workflows/ci.yml', 'file')
     raw = stand.get(f'{REPO}/contents/.github/workflows/ci.yml', Accept='application/vnd.github.raw')
-    assert raw.body == text and raw.headers['X-Content-Type-Options'] == 'nosniff' and raw.headers['Content-Type'].startswith('text/plain')
-    for path in ('README.md', '..%2f..%2fetc%2fpasswd', '../../../etc/passwd', '.github/workflows/../workflows/ci.yml', '.github/workflows/gone.yml'):
+    assert raw.body == text and raw.headers['X-Content-Type-Options'] == 'nosniff' and raw.headers[
+        'Content-Type'].startswith('text/plain')
+    for path in ('README.md', '..%2f..%2fetc%2fpasswd', '../../../etc/passwd', '.github/workflows/../workflows/ci.yml',
+                 '.github/workflows/gone.yml'):
         answer = stand.get(f'{REPO}/contents/{path}')
         assert answer.status == 404 and answer.json()['message']
 
 
 @pytest.mark.parametrize('body, status', [
-    ('{', 400), ('[]', 400), ('"x"', 400), ('\\xff', 400), ('{}', 422), ('{"ref":5}', 422), ('{"ref":""}', 422), ('{"ref":"main","inputs":[1]}', 422),
+    ('{', 400), ('[]', 400), ('"x"', 400), ('\\xff', 400), ('{}', 422), ('{"ref":5}', 422), ('{"ref":""}', 422),
+    ('{"ref":"main","inputs":[1]}', 422),
     (json.dumps({'ref': 'main', 'inputs': {str(n): '' for n in range(26)}}), 422), ('[' * 100_000, 400)])
 def test_dispatches_that_can_t_be(stand: Stand, body: str, status: int) -> None:
     stand.mirror.put(run_of(1))
@@ -89,22 +93,30 @@ def test_artifacts(stand: Stand, tmp_path: pathlib.Path, monkeypatch: pytest.Mon
     one = found['artifacts'][1]
     assert one['archive_download_url'] == f'https://hub.example:8443/api/v3{REPO}/actions/artifacts/{number}/zip'
     assert one['workflow_run']['id'] == 1 and one['workflow_run']['head_sha'] == sha(1)
-    assert stand.json(f'{REPO}/actions/artifacts?name=old')['total_count'] == 1 and stand.json(f'{REPO}/actions/artifacts')['total_count'] == 2
+    assert stand.json(f'{REPO}/actions/artifacts?name=old')['total_count'] == 1 and stand.json(
+        f'{REPO}/actions/artifacts')['total_count'] == 2
     assert stand.json(f'{REPO}/actions/artifacts/{number}') == one
     got = stand.follow(stand.get(f'{REPO}/actions/artifacts/{number}/zip'))
-    assert (got.body, got.headers['Content-Type']) == (b'PK things', 'application/zip') and '\n' not in got.headers['Content-Disposition']
+    assert (got.body, got.headers['Content-Type']) == (b'PK things',
+                                                       'application/zip') and '\n' not in got.headers[
+                                                           'Content-Disposition']
     assert stand.get(f'{REPO}/actions/artifacts/{gone}/zip').status == 410
-    for path in (f'{REPO}/actions/artifacts/{secret}', f'{REPO}/actions/artifacts/{secret}/zip', f'{REPO}/actions/artifacts/99'):
+    for path in (f'{REPO}/actions/artifacts/{secret}', f'{REPO}/actions/artifacts/{secret}/zip',
+                 f'{REPO}/actions/artifacts/99'):
         assert stand.get(path).status == 404
     assert stand.ask('DELETE', f'{REPO}/actions/artifacts/{secret}').status == 404
-    assert stand.ask('DELETE', f'{REPO}/actions/artifacts/{number}').status == 204 and stand.get(f'{REPO}/actions/artifacts/{number}').status == 404
+    assert stand.ask('DELETE',
+                     f'{REPO}/actions/artifacts/{number}').status == 204 and stand.get(
+                         f'{REPO}/actions/artifacts/{number}').status == 404
 
 
 def test_caches(stand: Stand, monkeypatch: pytest.MonkeyPatch) -> None:
     kept = CachesByHand()
     monkeypatch.setattr(stand.hub, 'caches', kept)
     stand.mirror.put(run_of(1))
-    for at, (key, scope, size) in enumerate([('npm-a', 'refs/heads/main', 30), ('npm-b', 'refs/heads/main', 10), ('npm-a', 'refs/heads/topic', 20)]):
+    for at, (key, scope,
+             size) in enumerate([('npm-a', 'refs/heads/main', 30), ('npm-b', 'refs/heads/main', 10),
+                                 ('npm-a', 'refs/heads/topic', 20)]):
         kept.add(key, scope, size, 1_796_067_000_000 + at * 1000)
     kept.add('npm-a', 'refs/heads/main', 1, 0, 'octo/other')
 
@@ -113,7 +125,8 @@ def test_caches(stand: Stand, monkeypatch: pytest.MonkeyPatch) -> None:
     assert ids() == [3, 2, 1] and ids('?direction=asc') == [1, 2, 3] and ids('?sort=size_in_bytes') == [1, 3, 2]
     assert ids('?key=npm-a') == [3, 1] and ids('?ref=refs/heads/main') == [2, 1]
     assert stand.get(f'{REPO}/actions/caches?sort=key').status == 422
-    assert stand.json(f'{REPO}/actions/cache/usage') == {'full_name': 'octo/hello', 'active_caches_size_in_bytes': 60, 'active_caches_count': 3}
+    assert stand.json(f'{REPO}/actions/cache/usage') == {'full_name': 'octo/hello', 'active_caches_size_in_bytes': 60,
+                                                         'active_caches_count': 3}
     assert stand.json(f'{REPO}/actions/caches')['actions_caches'][0]['last_accessed_at'] == '2026-11-30T19:30:02Z'
     assert stand.ask('DELETE', f'{REPO}/actions/caches').status == 422
     answer = stand.ask('DELETE', f'{REPO}/actions/caches?key=npm-a&ref=refs/heads/topic')
@@ -128,11 +141,14 @@ def test_caches(stand: Stand, monkeypatch: pytest.MonkeyPatch) -> None:
 def test_runners(stand: Stand) -> None:
     stand.mirror.put(run_of(1))
     found = stand.json(f'{REPO}/actions/runners')
-    assert [(one['name'], one['status'], one['busy'], one['os'], [label['name'] for label in one['labels']]) for one in found['runners']] == [
+    assert [(one['name'], one['status'], one['busy'], one['os'], [label['name'] for label in one['labels']])
+            for one in found['runners']] == [
         ('r1', 'online', True, 'linux', ['linux', 'x64']), ('r2', 'offline', False, 'unknown', [])]
     first = found['runners'][0]
-    assert stand.json('/orgs/octo/actions/runners') == found and stand.json(f'{REPO}/actions/runners/{first["id"]}') == first
-    assert [one['name'] for one in stand.json(f'{REPO}/actions/runners/{first["id"]}/labels')['labels']] == ['linux', 'x64']
+    assert stand.json('/orgs/octo/actions/runners') == found and stand.json(
+        f'{REPO}/actions/runners/{first["id"]}') == first
+    assert [one['name']
+            for one in stand.json(f'{REPO}/actions/runners/{first["id"]}/labels')['labels']] == ['linux', 'x64']
     assert stand.json(f'{REPO}/actions/runners?name=r2')['total_count'] == 1
     for path in ('/orgs/none/actions/runners', f'{REPO}/actions/runners/5', '/orgs/..%2f/actions/runners'):
         assert stand.get(path).status == 404
@@ -161,10 +177,12 @@ def test_fields_of_answers(stand: Stand) -> None:
     for path, status in ((REPO, 200), (f'{REPO}/actions/runs/5', 404)):
         answer = stand.get(path, 'write')
         assert answer.status == status and answer.headers['Content-Type'] == 'application/json; charset=utf-8'
-        assert answer.headers['X-GitHub-Media-Type'] == 'github.v3; format=json' and answer.headers['X-GitHub-Request-Id']
+        assert answer.headers['X-GitHub-Media-Type'] == 'github.v3; format=json' and answer.headers[
+            'X-GitHub-Request-Id']
         assert {'repo', 'read:org', 'workflow'} <= set(answer.headers['X-OAuth-Scopes'].split(', '))
         assert answer.headers['X-Content-Type-Options'] == 'nosniff' and 'private' in answer.headers['Cache-Control']
-    assert 'X-OAuth-Scopes' not in stand.get(REPO, 'read').headers  # a token that only reads has no scope of GitHub's classic tokens
+    assert 'X-OAuth-Scopes' not in stand.get(REPO,
+                                             'read').headers  # a token that only reads has no scope of GitHub's classic tokens
 
 
 def test_head_is_get_without_a_body(stand: Stand) -> None:
@@ -176,19 +194,27 @@ def test_head_is_get_without_a_body(stand: Stand) -> None:
 def test_refused_events(stand: Stand) -> None:
     stand.mirror.put(run_of(1))
     for number in range(3):
-        stand.hub.refused.add(1_796_067_000_000, 'octo/hello', 'push', f'd{number}', '.github/workflows/<b>.yml', 'refs/heads/main', sha(1), 26, 7,
+        stand.hub.refused.add(1_796_067_000_000, 'octo/hello', 'push', f'd{number}', '.github/workflows/<b>.yml',
+                              'refs/heads/main', sha(1), 26, 7,
                               'the condition reads an output', 'read the result of the job')
-    stand.hub.refused.add(1_796_067_000_000, 'octo/other', 'push', 'd9', None, None, None, None, None, 'no workflow', '')
+    stand.hub.refused.add(1_796_067_000_000, 'octo/other', 'push', 'd9', None, None, None, None, None, 'no workflow',
+                          '')
     found = stand.json(f'{REPO}/actions/acts/refused?per_page=2')['refused']
     assert [one['delivery'] for one in found] == ['d2', 'd1']
     assert {name: found[0][name] for name in ('event', 'path', 'code', 'line', 'message', 'created_at')} == {
-        'event': 'push', 'path': '.github/workflows/<b>.yml', 'code': 26, 'line': 7, 'message': 'the condition reads an output', 'created_at': '2026-11-30T19:30:00Z'}
-    assert [one['delivery'] for one in stand.json(f'{REPO}/actions/acts/refused?per_page=2&page=2')['refused']] == ['d0']
-    assert [one['delivery'] for one in stand.json(f'{REPO}/actions/acts/refused?before={found[1]["id"]}')['refused']] == ['d0']
+        'event': 'push', 'path': '.github/workflows/<b>.yml', 'code': 26, 'line': 7,
+        'message': 'the condition reads an output', 'created_at': '2026-11-30T19:30:00Z'}
+    assert [one['delivery']
+            for one in stand.json(f'{REPO}/actions/acts/refused?per_page=2&page=2')['refused']] == ['d0']
+    assert [one['delivery']
+            for one in stand.json(f'{REPO}/actions/acts/refused?before={found[1]["id"]}')['refused']] == ['d0']
 
 
-@pytest.mark.parametrize('path', ['actions/secrets', 'actions/secrets/public-key', 'actions/variables', 'actions/variables/A', 'actions/permissions',
-                                  'actions/oidc/customization/sub', 'deployments', 'deployments/5/statuses', 'environments', 'pulls', 'pulls/7', 'issues', 'zen'])
+@pytest.mark.parametrize('path',
+                         ['actions/secrets', 'actions/secrets/public-key', 'actions/variables', 'actions/variables/A',
+                          'actions/permissions',
+                                  'actions/oidc/customization/sub', 'deployments', 'deployments/5/statuses',
+                                  'environments', 'pulls', 'pulls/7', 'issues', 'zen'])
 def test_what_is_not_here_is_404_with_words(stand: Stand, path: str) -> None:
     stand.mirror.put(run_of(1))
     answer = stand.get(f'{REPO}/{path}')
@@ -204,7 +230,8 @@ def test_rates(tmp_path: pathlib.Path) -> None:
         for used in range(1, 4):
             fields = stand.get(REPO).headers
             assert (fields['X-RateLimit-Limit'], fields['X-RateLimit-Resource']) == ('5', 'core')
-            assert int(fields['X-RateLimit-Used']) + int(fields['X-RateLimit-Remaining']) == 5 and int(fields['X-RateLimit-Used']) <= used
+            assert int(fields['X-RateLimit-Used']) + int(fields['X-RateLimit-Remaining']) == 5 and int(
+                fields['X-RateLimit-Used']) <= used
             assert 0 < int(fields['X-RateLimit-Reset']) - time.time() < 10
         assert stand.json('/rate_limit')['rate'].keys() == {'limit', 'remaining', 'reset', 'used'}
         answers = [stand.get(REPO) for _ in range(12)]
@@ -243,7 +270,8 @@ def test_badges(stand: Stand) -> None:
         picture = ElementTree.fromstring(answer.text)  # it is well formed
         assert {one.tag.rpartition('}')[2] for one in picture.iter()} == {'svg', 'title', 'rect', 'g', 'text'}
         return [one.text or '' for one in picture.iter() if one.tag.endswith('}text')][1]
-    assert words() == 'failing' and words('?branch=topic/a') == 'passing' and words('?branch=none') == 'no status' and words('?event=pull_request') == 'no status'
+    assert words() == 'failing' and words('?branch=topic/a') == 'passing' and words(
+        '?branch=none') == 'no status' and words('?event=pull_request') == 'no status'
     assert words(where=path.replace('ci.yml', 'deploy.yml')) == 'no status'
     for token, status in (('other', 404), (None, 401)):
         given = {'Authorization': f'token {stand.tokens[token]}'} if token else {}

@@ -13,7 +13,8 @@ pytestmark = pytest.mark.quick
 @pytest.mark.parametrize('state, waits_for, approval, expected', [
     ('ready', 'runner', False, ('queued', None)),
     ('ready', 'max_parallel', False, ('queued', None)),
-    ('waiting', 'group', False, ('pending', None)),  # 'at the front of the queue but the group-based concurrency limit has been reached'
+    ('waiting', 'group', False, ('pending', None)),
+    # 'at the front of the queue but the group-based concurrency limit has been reached'
     ('ready', 'runner', True, ('waiting', None)),  # 'waiting for a deployment protection rule to be satisfied'
     ('running', None, False, ('in_progress', None)),
     ('stopping', None, False, ('in_progress', None)),
@@ -50,7 +51,8 @@ def test_combined_states(states: list[str], whole: str) -> None:
 
 
 def test_contexts_differ_by_event() -> None:
-    assert context_of('Ci', '.github/workflows/ci.yml', 'push') != context_of('Ci', '.github/workflows/ci.yml', 'pull_request')
+    assert context_of('Ci', '.github/workflows/ci.yml',
+                      'push') != context_of('Ci', '.github/workflows/ci.yml', 'pull_request')
     assert context_of('', '.github/workflows/ci.yml', 'push') == '.github/workflows/ci.yml (push)'
 
 

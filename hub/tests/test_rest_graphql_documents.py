@@ -11,7 +11,8 @@ pytestmark = pytest.mark.quick
 
 
 def user(login: str) -> Thing:
-    return Thing('User', {'login': login, 'bio': None, 'age': Unanswered('NOT_FOUND', 'Nobody knows.')}, frozenset({'Actor'}))
+    return Thing('User', {'login': login, 'bio': None, 'age': Unanswered('NOT_FOUND', 'Nobody knows.')},
+                 frozenset({'Actor'}))
 
 
 async def later(value: object) -> object:
@@ -33,7 +34,8 @@ def test_aliases_arguments_and_fragments() -> None:
       user(login: $who) { login @skip(if: $not) ... on Actor { name: login } ... on Bot { id } }
       users { login @include(if: $not) }
     } fragment names on User { login }'''
-    assert ask(text, {'not': True}) == {'data': {'me': {'login': 'mona', '__typename': 'User'}, 'user': {'name': 'mona'},
+    assert ask(text,
+               {'not': True}) == {'data': {'me': {'login': 'mona', '__typename': 'User'}, 'user': {'name': 'mona'},
                                                  'users': [{'login': 'a'}, {'login': 'b'}]}}
 
 
@@ -41,7 +43,9 @@ def test_the_same_field_twice_is_merged() -> None:
     assert ask('{ viewer { login } viewer { bio } }') == {'data': {'viewer': {'login': 'mona', 'bio': None}}}
 
 
-@pytest.mark.parametrize('text, value', [('"a\\n\\u00e9"', "'a\\né'"), ('-3', '-3'), ('1.5', '1.5'), ('[1, {a: OPEN}]', "[1, {'a': 'OPEN'}]"),
+@pytest.mark.parametrize('text, value',
+                         [('"a\\n\\u00e9"', "'a\\né'"), ('-3', '-3'), ('1.5', '1.5'),
+                          ('[1, {a: OPEN}]', "[1, {'a': 'OPEN'}]"),
                                          ('null', 'None'), ('true', 'True'), ('"""a "b" c"""', '\'a "b" c\'')])
 def test_values(text: str, value: str) -> None:
     assert ask('{ echo(value: %s) }' % text) == {'data': {'echo': value}}
@@ -56,7 +60,8 @@ def test_a_field_without_an_answer_is_null_and_says_why() -> None:
 @pytest.mark.parametrize('text, words', [
     ('{ viewer { secrets } }', "Field 'secrets' doesn't exist on type 'User'"), ('{ viewer }', 'must have selections'),
     ('{ viewer { login { a } } }', "can't be made on scalars"), ('{ ...a } fragment a on Query { ...a }', 'Fragments'),
-    ('{ ...b }', 'not defined'), ('query($a: Int!) { viewer { login } }', 'Variable $a'), ('{ viewer @evil { login } }', '@evil')])
+    ('{ ...b }', 'not defined'), ('query($a: Int!) { viewer { login } }', 'Variable $a'),
+    ('{ viewer @evil { login } }', '@evil')])
 def test_queries_that_are_refused(text: str, words: str) -> None:
     with pytest.raises(Refused) as caught:
         ask(text)
@@ -78,8 +83,11 @@ def test_one_of_several_operations_has_to_be_named() -> None:
             ask(text, name=name)
 
 
-@pytest.mark.parametrize('text', ['', '{', '}', '{ a', 'query', 'mutate { a }', '{ a(b: ) }', '{ a(b: "x) }', '{ a % }', '{ a(b: "\\q") }',
-                                  'fragment a on B { c }', '{' * 1000, '{ a(b: %s) }' % ('[' * 1000), '{ ' + 'a ' * 5000 + '}',
+@pytest.mark.parametrize('text',
+                         ['', '{', '}', '{ a', 'query', 'mutate { a }', '{ a(b: ) }', '{ a(b: "x) }', '{ a % }',
+                          '{ a(b: "\\q") }',
+                                  'fragment a on B { c }', '{' * 1000, '{ a(b: %s) }' % ('[' * 1000),
+                                  '{ ' + 'a ' * 5000 + '}',
                                   'query(' + '$a: ' + '[' * 100, '\0', '"""'])
 def test_texts_that_are_no_documents(text: str) -> None:
     with pytest.raises(SyntaxFault):

@@ -41,7 +41,8 @@ def test_one_page_has_no_links() -> None:
 
 
 def test_a_query_in_a_link_can_t_end_it() -> None:
-    assert '<' not in Page(1, 1).links(URL, {'branch': '>; rel="next", <https://other.example'}, 2).replace(f'<{URL}', '')
+    assert '<' not in Page(1, 1).links(URL, {'branch': '>; rel="next", <https://other.example'},
+                                       2).replace(f'<{URL}', '')
 
 
 def test_cuts() -> None:
@@ -55,5 +56,6 @@ def test_cuts() -> None:
 
 
 def test_known_tags_compare_weakly() -> None:
-    assert is_known('W/"a"', 'W/"a"') and is_known('W/"a"', '"a"') and is_known('"a"', '"b", W/"a"') and is_known('"a"', '*')
+    assert is_known('W/"a"', 'W/"a"') and is_known('W/"a"',
+                                                   '"a"') and is_known('"a"', '"b", W/"a"') and is_known('"a"', '*')
     assert not is_known('"a"', '"b"') and not is_known('"a"', '')

@@ -40,10 +40,13 @@ def full(standing_hub: Stand) -> Iterator[Stand]:
     before, hub = standing_hub.mirror, standing_hub.hub
     mirror = Mirror(ViewPort('127.0.0.1:1'), HookPort('127.0.0.1:1'), hub.database)
     for number in range(1, COUNT + 1):
-        run = run_of(number, branch=('main', 'topic/a', 'release')[number % 3], actor=('mona', 'hubot')[number % 5 == 0],
-                     conclusion=('success', 'success', 'failure')[number % 3], path=f'.github/workflows/{("ci", "deploy", "nightly")[number % 3]}.yml')
+        run = run_of(number, branch=('main', 'topic/a', 'release')[number % 3],
+                     actor=('mona', 'hubot')[number % 5 == 0],
+                     conclusion=('success', 'success', 'failure')[number % 3],
+                     path=f'.github/workflows/{("ci", "deploy", "nightly")[number % 3]}.yml')
         mirror.put(run)
-    leg = {'leg': 0, 'combination': {}, 'state': 'success', 'lease': 7, 'runner': 'r1', 'labels': ['linux'], 'group': None, 'waits_for': None}
+    leg = {'leg': 0, 'combination': {}, 'state': 'success', 'lease': 7, 'runner': 'r1', 'labels': ['linux'],
+           'group': None, 'waits_for': None}
     row = dataclasses.asdict(mirror.runs[777].row)
     mirror.attempts.keep_whole(777, 1, {**row, 'stopping': False, 'waits_for': None, 'from': None, 'jobs': [
         {'id': 'build', 'state': 'success', 'needs': [], 'max_parallel': None, 'legs': [leg]}]})
@@ -55,7 +58,8 @@ def full(standing_hub: Stand) -> Iterator[Stand]:
 
 def measured(stand: Stand, path: str, most: float, known: str = '', clients: int = 1) -> float:
     """Milliseconds of the hub's processor time for a request: the best of up to five rounds, since other programs share the machine."""
-    words = [sys.executable, '-c', CLIENT, str(stand.port), stand.tokens['read'], str(ASKED // clients), known, f'/api/v3/repos/octo/hello/{path}']
+    words = [sys.executable, '-c', CLIENT, str(stand.port), stand.tokens['read'], str(ASKED // clients), known,
+             f'/api/v3/repos/octo/hello/{path}']
     best = float('inf')
     for _ in range(5):
         used = time.process_time()
@@ -64,7 +68,8 @@ def measured(stand: Stand, path: str, most: float, known: str = '', clients: int
         used = (time.process_time() - used) / ASKED * 1000
         assert all(one.returncode == 0 for one in running)
         best = min(best, used)
-        print(f'{path} {known} {clients} clients: {used:.2f} ms of the processor, wall median {max(one[0] for one in said):.2f} ms, best '
+        print(
+            f'{path} {known} {clients} clients: {used:.2f} ms of the processor, wall median {max(one[0] for one in said):.2f} ms, best '
               f'{min(one[1] for one in said):.2f} ms, {ASKED / max(one[2] for one in said):.0f}/s')
         if best < most:
             break
@@ -72,7 +77,8 @@ def measured(stand: Stand, path: str, most: float, known: str = '', clients: int
 
 
 @pytest.mark.parametrize('path, most', [
-    ('actions/runs?per_page=20', 2.0), ('actions/runs?per_page=100', 4.0), ('actions/runs/777', 2.0), ('actions/runs/777/jobs', 3.0), ('actions/workflows', 2.0),
+    ('actions/runs?per_page=20', 2.0), ('actions/runs?per_page=100', 4.0), ('actions/runs/777', 2.0),
+    ('actions/runs/777/jobs', 3.0), ('actions/workflows', 2.0),
     ('actions/runs?per_page=20&branch=topic/a&status=failure', 2.0), ('actions/runs?per_page=20&status=success', 2.0),
     ('actions/runs?per_page=20&created=%3E2026-11-30', 20.0)])
 def test_processor_time_of_a_request(full: Stand, path: str, most: float) -> None:

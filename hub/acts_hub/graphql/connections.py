@@ -16,16 +16,20 @@ def connection(name: str, things: Sequence[Thing], given: Arguments) -> Thing:
         if count is not None and (not isinstance(count, int) or count < 0):
             raise Unanswered('ARGUMENT_ERROR', f'`{word}` on the `{name}` connection is a whole number.')
         if count is not None and count > MAX_FIRST:
-            raise Unanswered('EXCESSIVE_PAGINATION', f'Requesting {count} records on the `{name}` connection exceeds the `{word}` limit of '
+            raise Unanswered('EXCESSIVE_PAGINATION',
+                             f'Requesting {count} records on the `{name}` connection exceeds the `{word}` limit of '
                                                      f'{MAX_FIRST} records.')
     if first is None and last is None:
-        raise Unanswered('MISSING_PAGINATION_BOUNDARIES', f'You must provide a `first` or `last` value to properly paginate the `{name}` connection.')
+        raise Unanswered('MISSING_PAGINATION_BOUNDARIES',
+                         f'You must provide a `first` or `last` value to properly paginate the `{name}` connection.')
     start = _place(after)
     end = len(things) if first is None else min(len(things), start + first)
     if last is not None:
         start = max(start, end - last)
     cut = things[start:end]
-    info = Thing('PageInfo', {'hasNextPage': end < len(things), 'hasPreviousPage': start > 0, 'endCursor': _cursor(end) if cut else None,
+    info = Thing('PageInfo',
+                 {'hasNextPage': end < len(things), 'hasPreviousPage': start > 0,
+                  'endCursor': _cursor(end) if cut else None,
                               'startCursor': _cursor(start + 1) if cut else None})
     edges = [Thing('Edge', {'node': thing, 'cursor': _cursor(start + at + 1)}) for at, thing in enumerate(cut)]
     return Thing('Connection', {'totalCount': len(things), 'nodes': list(cut), 'edges': edges, 'pageInfo': info})

@@ -9,9 +9,10 @@ from typing import Union
 
 MAX_TOKENS = 4000
 MAX_DEPTH = 30
-_TOKEN = re.compile(r'''(?P<skip>(?:[\s,\ufeff]|\#[^\n\r]*)+)|(?P<name>[_A-Za-z][_0-9A-Za-z]*)|(?P<block>"""(?:[^\\]|\\)*?""")'''
-                    r'''|(?P<text>"(?:[^"\\\n\r]|\\.)*")|(?P<float>-?\d+(?:\.\d+(?:[eE][+-]?\d+)?|[eE][+-]?\d+))|(?P<int>-?\d+)'''
-                    r'''|(?P<sign>\.\.\.|[!$&()\[\]{}:=@|])''')
+_TOKEN = re.compile(
+    r'''(?P<skip>(?:[\s,\ufeff]|\#[^\n\r]*)+)|(?P<name>[_A-Za-z][_0-9A-Za-z]*)|(?P<block>"{3}(?:[^\\]|\\)*?"{3})'''
+    r'''|(?P<text>"(?:[^"\\\n\r]|\\.)*")|(?P<float>-?\d+(?:\.\d+(?:[eE][+-]?\d+)?|[eE][+-]?\d+))'''
+    r'''|(?P<int>-?\d+)|(?P<sign>\.\.\.|[!$&()\[\]{}:=@|])''')
 
 
 class SyntaxFault(Exception):

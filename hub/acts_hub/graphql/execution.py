@@ -142,7 +142,8 @@ class Execution:
         """A value with what is asked for of it."""
         if isinstance(made, Thing):
             if not inner:
-                raise Refused(f"Field must have selections (field '{asked.name}' returns {made.type} but has no selections)")
+                raise Refused(
+                    f"Field must have selections (field '{asked.name}' returns {made.type} but has no selections)")
             return await self.selected(made, inner, path)
         if isinstance(made, list):
             return [await self.completed(item, asked, inner, [*path, at]) for at, item in enumerate(made)]

@@ -30,11 +30,15 @@ class Objects:
 
     def root(self) -> Thing:
         """What queries begin with."""
-        return Thing('Query', {'viewer': lambda _: self.user(self.identity.name), 'repository': self.repository_of, 'node': self.node_of})
+        return Thing('Query',
+                     {'viewer': lambda _: self.user(self.identity.name), 'repository': self.repository_of,
+                      'node': self.node_of})
 
     def user(self, login: str) -> Thing:
         """A person."""
-        return Thing('User', {'login': login, 'id': node_of('User', login), 'databaseId': number_of('user', login.lower()), 'name': None,
+        return Thing('User',
+                     {'login': login, 'id': node_of('User', login), 'databaseId': number_of('user', login.lower()),
+                      'name': None,
                               'url': f'{self.api.shapes.web}/{login}'}, frozenset({'Actor', 'Node', 'RepositoryOwner'}))
 
     # repositories
@@ -55,16 +59,22 @@ class Objects:
     def repository(self, name: str) -> Thing:
         """A repository."""
         owner, _, short = name.partition('/')
-        permission = next((right.name for right in (Right.ADMIN, Right.WRITE) if self.identity.may(right, name)), 'READ')
+        permission = next((right.name for right in (Right.ADMIN, Right.WRITE) if self.identity.may(right, name)),
+                          'READ')
         branch = self.hub.config.default_branch(name)
         return Thing('Repository', {
-            'id': node_of('Repository', name), 'databaseId': number_of('repo', name.lower()), 'name': short, 'nameWithOwner': name,
-            'owner': self.user(owner), 'url': f'{self.api.shapes.web}/{name}', 'description': '', 'isPrivate': True, 'visibility': 'PRIVATE',
-            'isArchived': False, 'isFork': False, 'isEmpty': False, 'hasIssuesEnabled': False, 'hasProjectsEnabled': False,
+            'id': node_of('Repository', name), 'databaseId': number_of('repo', name.lower()), 'name': short,
+            'nameWithOwner': name,
+            'owner': self.user(owner), 'url': f'{self.api.shapes.web}/{name}', 'description': '', 'isPrivate': True,
+            'visibility': 'PRIVATE',
+            'isArchived': False, 'isFork': False, 'hasIssuesEnabled': False, 'hasProjectsEnabled': False,
             'hasWikiEnabled': False, 'viewerPermission': permission, 'viewerCanAdminister': permission == 'ADMIN',
-            'defaultBranchRef': Thing('Ref', {'name': branch, 'prefix': 'refs/heads/', 'id': node_of('Ref', f'{name}:{branch}')}),
+            'defaultBranchRef': Thing('Ref',
+                                      {'name': branch, 'prefix': 'refs/heads/',
+                                       'id': node_of('Ref', f'{name}:{branch}')}),
             'parent': None, 'mergeCommitAllowed': False, 'rebaseMergeAllowed': False, 'squashMergeAllowed': False,
-            'pullRequest': lambda given: self.pull_of(name, given.get('number')), 'pullRequests': lambda given: self.pulls_of(name, given)},
+            'pullRequest': lambda given: self.pull_of(name, given.get('number')),
+            'pullRequests': lambda given: self.pulls_of(name, given)},
             frozenset({'Node'}))
 
     # pull requests
@@ -74,7 +84,8 @@ class Objects:
         run = next((run for run in reversed(self.hub.mirror.of(name)) if run.facts.pull_number == number), None) \
             if isinstance(number, int) else None
         if run is None:
-            raise Unanswered('NOT_FOUND', f'Could not resolve to a PullRequest with the number of {str(number)[:20]}: no run of it is known.')
+            words = f'Could not resolve to a PullRequest with the number of {str(number)[:20]}: no run of it is known.'
+            raise Unanswered('NOT_FOUND', words)
         return self.pull(run)
 
     def pulls_of(self, name: str, given: Arguments) -> Thing:
@@ -82,7 +93,8 @@ class Objects:
         if given.get('states'):
             raise Unanswered('UNPROCESSABLE', OPEN)
         head, base = given.get('headRefName'), given.get('baseRefName')
-        runs: Sequence[Run] = self.hub.mirror.select(name, branch=head) if isinstance(head, str) else self.hub.mirror.of(name)
+        mirror = self.hub.mirror
+        runs: Sequence[Run] = mirror.select(name, branch=head) if isinstance(head, str) else mirror.of(name)
         newest: dict[int, Run] = {}
         for run in reversed(runs):
             if run.facts.pull_number is not None and base in (None, run.facts.base_ref):
@@ -95,9 +107,12 @@ class Objects:
         head = facts.head_repository or name
         owner, _, short = head.partition('/')
         return Thing('PullRequest', {
-            'id': node_of('PullRequest', f'{name}#{facts.pull_number}'), 'number': facts.pull_number, 'title': facts.pull_title or '',
-            'url': f'{self.api.shapes.web}/{name}/pull/{facts.pull_number}', 'headRefName': facts.branch, 'headRefOid': facts.sha,
-            'baseRefName': facts.base_ref, 'isCrossRepository': head.lower() != name.lower(), 'state': Unanswered('UNPROCESSABLE', OPEN),
+            'id': node_of('PullRequest', f'{name}#{facts.pull_number}'), 'number': facts.pull_number,
+            'title': facts.pull_title or '',
+            'url': f'{self.api.shapes.web}/{name}/pull/{facts.pull_number}', 'headRefName': facts.branch,
+            'headRefOid': facts.sha,
+            'baseRefName': facts.base_ref, 'isCrossRepository': head.lower() != name.lower(),
+            'state': Unanswered('UNPROCESSABLE', OPEN),
             'headRepository': Thing('Repository', {'name': short, 'nameWithOwner': head, 'owner': self.user(owner),
                                                    'id': node_of('Repository', head)}),
             'headRepositoryOwner': self.user(owner), 'commits': lambda given: self.commits(run, given),
@@ -107,7 +122,9 @@ class Objects:
         """The commit of the latest run: the last of the pull request's commits, as far as is known."""
         if given.get('last') != 1:
             raise Unanswered('UNPROCESSABLE', COUNT)
-        commit = Thing('Commit', {'oid': run.facts.sha, 'abbreviatedOid': (run.facts.sha or '')[:7], 'statusCheckRollup': lambda _: self.rollup(run)})
+        commit = Thing('Commit',
+                       {'oid': run.facts.sha, 'abbreviatedOid': (run.facts.sha or '')[:7],
+                        'statusCheckRollup': lambda _: self.rollup(run)})
         return Thing('PullRequestCommitConnection', {'totalCount': Unanswered('UNPROCESSABLE', COUNT),
                                                      'nodes': [Thing('PullRequestCommit', {'commit': commit})]})
 
@@ -128,7 +145,8 @@ class Objects:
         """A job as a check run. The hub has no rules of branches, so it requires none."""
         page = self.api.shapes.job_page(run, view)
         return Thing('CheckRun', {
-            'id': node_of('CheckRun', view.value), 'databaseId': view.value, 'name': view.name, 'status': view.status.upper(),
+            'id': node_of('CheckRun', view.value), 'databaseId': view.value, 'name': view.name,
+            'status': view.status.upper(),
             'conclusion': view.conclusion.upper() if view.conclusion else None, 'startedAt': iso(view.started_at),
             'completedAt': iso_or_none(view.completed_at), 'detailsUrl': page, 'url': page, 'permalink': page,
             'isRequired': False, 'checkSuite': self.suite(run)}, frozenset({'Node', 'RequirableByPullRequest'}))
@@ -136,9 +154,13 @@ class Objects:
     def suite(self, run: Run) -> Thing:
         """A run as a check suite."""
         row = run.row
-        workflow = Thing('Workflow', {'name': row.workflow or row.path, 'databaseId': self.api.shapes.workflow_number(row.repository, row.path)})
-        made: dict[str, Any] = {'databaseId': row.run, 'runNumber': row.number, 'event': row.event, 'url': self.api.shapes.run_page(run),
-                                'createdAt': iso(run.created_at), 'updatedAt': iso(run.updated_at), 'workflow': workflow}
+        workflow = Thing('Workflow',
+                         {'name': row.workflow or row.path,
+                          'databaseId': self.api.shapes.workflow_number(row.repository, row.path)})
+        made: dict[str, Any] = {'databaseId': row.run, 'runNumber': row.number, 'event': row.event,
+                                'url': self.api.shapes.run_page(run),
+                                'createdAt': iso(run.created_at), 'updatedAt': iso(run.updated_at),
+                                'workflow': workflow}
         return Thing('CheckSuite', {
             'id': node_of('CheckSuite', row.run), 'databaseId': row.run, 'workflowRun': Thing('WorkflowRun', made),
             'app': Thing('App', {'name': self.api.shapes.app['name'], 'slug': self.api.shapes.app['slug']})})
@@ -156,5 +178,6 @@ class Objects:
         if kind == 'PullRequest':
             repository, _, number = name.partition('#')
             self.named(repository)
-            return self.pull_of(repository, int(number) if number.isascii() and number.isdigit() and len(number) < 16 else None)
+            return self.pull_of(repository,
+                                int(number) if number.isascii() and number.isdigit() and len(number) < 16 else None)
         raise Unanswered('NOT_FOUND', f"Could not resolve to a node with the global id of '{text[:100]}'.")

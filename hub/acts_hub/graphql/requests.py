@@ -35,13 +35,15 @@ class GraphqlRequests:
         if not isinstance(variables, dict) or not (name is None or isinstance(name, str)):
             return self.failed({'message': 'Variables are an object, and the name of an operation is a text.'})
         try:
-            return self.api.answer(request, await self.carried_out(query, variables, name, Objects(self.api, request, identity)))
+            return self.api.answer(request,
+                                   await self.carried_out(query, variables, name, Objects(self.api, request, identity)))
         except SyntaxFault as fault:
             return self.failed({'message': str(fault)})
         except Refused as fault:
             return self.failed(fault.error)
 
-    async def carried_out(self, query: str, variables: dict[str, Any], name: str | None, objects: Objects) -> dict[str, object]:
+    async def carried_out(self, query: str, variables: dict[str, Any], name: str | None,
+                          objects: Objects) -> dict[str, object]:
         """What a query gives."""
         document = read(query)
         operation = document.operation(name or None)

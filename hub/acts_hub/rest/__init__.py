@@ -22,5 +22,7 @@ def routes(hub: Hub) -> list[web.RouteDef]:
     from .workflows import WorkflowRequests
     api = Api(hub)
     repositories = RepositoryRequests(api)
-    return [*RunRequests(api).routes(), *JobRequests(api).routes(), *WorkflowRequests(api).routes(), *CheckRequests(api).routes(),
-            *ArtifactRequests(api).routes(), *RunnerRequests(api).routes(), *BadgeRequests(api).routes(), *repositories.routes(), *repositories.last()]
+    return [*RunRequests(api).routes(), *JobRequests(api).routes(), *WorkflowRequests(api).routes(),
+            *CheckRequests(api).routes(),
+            *ArtifactRequests(api).routes(), *RunnerRequests(api).routes(), *BadgeRequests(api).routes(),
+            *repositories.routes(), *repositories.last()]

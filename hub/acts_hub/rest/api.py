@@ -147,11 +147,12 @@ class Api:
 
     def repositories(self, identity: Identity) -> list[str]:
         """The repositories that one may read: those with runs, and those that are configured."""
-        found = {name.lower(): name for name in [one.name for one in self.hub.config.repositories] + self.hub.mirror.repositories()}
+        found = {name.lower(): name
+                 for name in [one.name for one in self.hub.config.repositories] + self.hub.mirror.repositories()}
         return sorted(name for name in found.values() if identity.may(Right.READ, name))
 
     def writable(self, request: web.Request, right: Right = Right.WRITE) -> tuple[str, Identity]:
-        """The repository of an address and who asks, for who may act in it. A cookie does not do: pages have forms for that."""
+        """The repository of an address and who asks, for who may act in it. A cookie does not do: pages have forms."""
         repository = self.repository(request)
         try:
             identity = require(request, right, repository)
@@ -183,7 +184,8 @@ class Api:
         if whole is None:
             raise Fault(404, f'What attempt {as_it_was.row.attempt} did is not known: it was not seen from here.')
         gateway = self.gateway
-        return jobs_of(as_it_was, whole, gateway is not None and gateway.environments.is_approved(run.row.run, as_it_was.row.attempt))
+        return jobs_of(as_it_was, whole,
+                       gateway is not None and gateway.environments.is_approved(run.row.run, as_it_was.row.attempt))
 
     def attempt(self, run: Run, attempt: int | None) -> Run:
         """A run as it was in an attempt."""
@@ -213,7 +215,8 @@ class Api:
         """The workflow of an address: by its number, its path or the name of its file."""
         text = request.match_info['workflow']
         for workflow in self.workflows.of(repository):
-            if text in (workflow.path, workflow.path.rpartition('/')[2], str(self.shapes.workflow_number(repository, workflow.path))):
+            if text in (workflow.path, workflow.path.rpartition('/')[2],
+                        str(self.shapes.workflow_number(repository, workflow.path))):
                 return workflow
         raise Fault(404)
 
@@ -265,7 +268,8 @@ class Api:
 
     def redirect(self, path: str) -> web.Response:
         """302 to an address that holds for a minute."""
-        return web.Response(status=302, headers={'Location': self.shapes.web + self._downloads.address(f'{PREFIX}/acts/downloads{path}')})
+        address = self._downloads.address(f'{PREFIX}/acts/downloads{path}')
+        return web.Response(status=302, headers={'Location': self.shapes.web + address})
 
     def signed(self, request: web.Request) -> None:
         """404 unless the address was signed here, less than a minute ago."""
@@ -297,7 +301,8 @@ class Api:
 
 def fault_answer(fault: Fault) -> web.Response:
     """An error as GitHub sends it."""
-    return web.Response(text=dumps(fault.body()), status=fault.status, content_type='application/json', headers=fault.headers)
+    return web.Response(text=dumps(fault.body()), status=fault.status, content_type='application/json',
+                        headers=fault.headers)
 
 
 def fault_of(request: web.Request, fault: web.HTTPException) -> Fault:

@@ -31,7 +31,8 @@ class ArtifactRequests:
         get, on = self.api.get, self.api.on
         return [get('/actions/runs/{run}/artifacts', self.of_run), get('/actions/artifacts', self.of_repository),
                 get('/actions/artifacts/{artifact}', self.one), get('/actions/artifacts/{artifact}/zip', self.zip),
-                on('DELETE', '/actions/artifacts/{artifact}', self.delete), self.api.download('/artifacts/{artifact}', self.download),
+                on('DELETE', '/actions/artifacts/{artifact}', self.delete),
+                self.api.download('/artifacts/{artifact}', self.download),
                 get('/actions/caches', self.caches), on('DELETE', '/actions/caches', self.delete_caches),
                 on('DELETE', '/actions/caches/{cache}', self.delete_cache), get('/actions/cache/usage', self.usage)]
 
@@ -45,22 +46,26 @@ class ArtifactRequests:
     async def of_repository(self, request: web.Request) -> web.Response:
         """The artifacts of a repository, newest first."""
         repository = self.api.repository(request)
-        return self.listed(request, await self.found(list(self.hub.mirror.of(repository))[::-1], request.query.get('name')))
+        return self.listed(request,
+                           await self.found(list(self.hub.mirror.of(repository))[::-1], request.query.get('name')))
 
     async def found(self, runs: list[Run], name: str | None) -> list[tuple[Run, Artifact]]:
         """The artifacts of these runs, newest of each run first, of one name or of all."""
         def look() -> list[tuple[Run, Artifact]]:
-            return [(run, one) for run in runs for one in reversed(self.hub.artifacts.list(run.row.run)) if name in (None, '', one.name)]
+            return [(run, one) for run in runs for one in reversed(self.hub.artifacts.list(run.row.run))
+                    if name in (None, '', one.name)]
         return await asyncio.to_thread(look)
 
     def listed(self, request: web.Request, found: list[tuple[Run, Artifact]]) -> web.Response:
         """A page of artifacts."""
         page = Page.of(request.query)
-        return self.api.some(request, page, 'artifacts', [self.shape(run, one) for run, one in page.cut(found)], len(found))
+        return self.api.some(request, page, 'artifacts', [self.shape(run, one) for run, one in page.cut(found)],
+                             len(found))
 
     def shape(self, run: Run, one: Artifact) -> dict[str, Any]:
         """An artifact."""
-        return self.api.shapes.artifact(run, one.id, one.name, one.size, one.digest, one.created_at, one.expires_at, one.expires_at <= now())
+        return self.api.shapes.artifact(run, one.id, one.name, one.size, one.digest, one.created_at, one.expires_at,
+                                        one.expires_at <= now())
 
     def artifact(self, request: web.Request, repository: str) -> tuple[Run, Artifact]:
         """The artifact of an address, and its run."""
@@ -89,7 +94,8 @@ class ArtifactRequests:
         if found is None or path is None:
             raise Fault(410, GONE)
         return web.FileResponse(path, headers={
-            'Content-Type': 'application/zip', 'Content-Disposition': f"attachment; filename*=UTF-8''{quote(found.name, safe='')}.zip"})
+            'Content-Type': 'application/zip',
+            'Content-Disposition': f"attachment; filename*=UTF-8''{quote(found.name, safe='')}.zip"})
 
     async def delete(self, request: web.Request) -> web.Response:
         """Removes an artifact."""
@@ -113,7 +119,8 @@ class ArtifactRequests:
 
     def cache_shape(self, one: Cache) -> dict[str, Any]:
         """A cache."""
-        return {'id': one.id, 'ref': one.scope, 'key': one.key, 'version': one.version, 'last_accessed_at': iso(one.used_at),
+        return {'id': one.id, 'ref': one.scope, 'key': one.key, 'version': one.version,
+                'last_accessed_at': iso(one.used_at),
                 'created_at': iso(one.created_at), 'size_in_bytes': one.size}
 
     async def delete_caches(self, request: web.Request) -> web.Response:
@@ -127,7 +134,8 @@ class ArtifactRequests:
             raise Fault(404)
         for one in found:
             await asyncio.to_thread(self.hub.caches.delete, one.id)
-        return self.api.answer(request, {'total_count': len(found), 'actions_caches': [self.cache_shape(one) for one in found]})
+        return self.api.answer(request,
+                               {'total_count': len(found), 'actions_caches': [self.cache_shape(one) for one in found]})
 
     async def delete_cache(self, request: web.Request) -> web.Response:
         """Removes a cache."""
@@ -142,5 +150,6 @@ class ArtifactRequests:
         """How much the caches of a repository take."""
         repository = self.api.repository(request)
         found = self.hub.caches.list(repository)
-        return self.api.answer(request, {'full_name': repository, 'active_caches_size_in_bytes': sum(one.size for one in found),
+        return self.api.answer(request,
+                               {'full_name': repository, 'active_caches_size_in_bytes': sum(one.size for one in found),
                                          'active_caches_count': len(found)})

@@ -29,13 +29,14 @@ class CheckRequests:
         get = self.api.get
         return [get('/commits/{ref:.+}/check-runs', self.checks), get('/commits/{ref:.+}/check-suites', self.suites),
                 get('/commits/{ref:.+}/status', self.combined), get('/commits/{ref:.+}/statuses', self.statuses),
-                get('/statuses/{ref:.+}', self.statuses), get('/check-runs/{job}', self.one), get('/check-runs/{job}/annotations', self.annotations),
+                get('/statuses/{ref:.+}', self.statuses), get('/check-runs/{job}', self.one),
+                get('/check-runs/{job}/annotations', self.annotations),
                 get('/check-suites/{run}', self.suite), get('/check-suites/{run}/check-runs', self.of_suite)]
 
     # what a commit has
 
     def runs_at(self, repository: str, ref: str) -> tuple[str, list[Run]]:
-        """A commit, and the latest run of each workflow and event at it; of a branch or tag at the commit of its latest run."""
+        """A commit, and the latest run of each workflow and event at it; of a branch that of its latest run."""
         sha = commit_of(self.hub.mirror, repository, ref)
         runs = latest_at(self.hub.mirror, repository, sha) if sha else []
         if not sha or not runs:
@@ -97,7 +98,7 @@ class CheckRequests:
     # statuses
 
     def states_at(self, repository: str, ref: str) -> tuple[str, list[dict[str, Any]]]:
-        """A commit and its statuses, newest first: of the latest run of each workflow and event, and of what was refused since."""
+        """A commit and its statuses, newest first: of the latest run of each context, and of what was refused since."""
         sha = commit_of(self.hub.mirror, repository, ref)
         if sha is None:
             raise Fault(404, NO_COMMIT)
@@ -122,7 +123,8 @@ class CheckRequests:
         return self.api.answer(request, {
             'state': combined_state(state['state'] for state in states), 'statuses': list(page.cut(states)), 'sha': sha,
             'total_count': len(states), 'repository': self.api.shapes.repository(repository),
-            'commit_url': self.api.shapes.at(repository, f'commits/{sha}'), 'url': self.api.shapes.at(repository, f'commits/{sha}/status')})
+            'commit_url': self.api.shapes.at(repository, f'commits/{sha}'),
+            'url': self.api.shapes.at(repository, f'commits/{sha}/status')})
 
     async def statuses(self, request: web.Request) -> web.Response:
         """The statuses of a commit, newest first."""

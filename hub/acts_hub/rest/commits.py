@@ -21,7 +21,7 @@ def commit_of(mirror: Mirror, repository: str, ref: str) -> str | None:
 
 
 def latest_at(mirror: Mirror, repository: str, sha: str) -> list[Run]:
-    """The latest run of each workflow and event at a commit, newest first. Of a pull request that is the head, not the merge."""
+    """The latest run of each workflow and event at a commit, newest first; of a pull request at its head."""
     found: dict[tuple[str, str], Run] = {}
     for run in reversed(mirror.select(repository, sha=sha)):
         found.setdefault((run.row.path, run.row.event), run)

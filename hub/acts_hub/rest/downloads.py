@@ -24,7 +24,8 @@ class Downloads:
         """Whether this path was signed here, less than a minute ago."""
         if not (until.isascii() and until.isdigit() and len(until) <= 12 and signature.isascii()):
             return False
-        return hmac.compare_digest(self._signature(path, int(until)), signature) and int(until) >= (time.time() if at is None else at)
+        is_signed = hmac.compare_digest(self._signature(path, int(until)), signature)
+        return is_signed and int(until) >= (time.time() if at is None else at)
 
     def _signature(self, path: str, until: int) -> str:
         return hmac.new(self._key, f'{until} {path}'.encode(), hashlib.sha256).hexdigest()

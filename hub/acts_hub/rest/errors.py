@@ -27,4 +27,5 @@ class Fault(Exception):
 
 def invalid(resource: str, field: str, message: str) -> Fault:
     """422 for a member of a request that has a value which can't be."""
-    return Fault(422, 'Validation Failed', [{'resource': resource, 'field': field, 'code': 'invalid', 'message': message}])
+    return Fault(422, 'Validation Failed',
+                 [{'resource': resource, 'field': field, 'code': 'invalid', 'message': message}])

@@ -67,7 +67,8 @@ def _moment(text: str) -> tuple[int, int]:
         start = start if start.tzinfo else start.replace(tzinfo=timezone.utc)
         return _milliseconds(start), _milliseconds(start) + 1000
     except (ValueError, OverflowError):
-        raise invalid('WorkflowRun', 'created', 'created is a date such as 2026-11-30, or a span such as >=2026-11-30.') from None
+        raise invalid('WorkflowRun', 'created',
+                      'created is a date such as 2026-11-30, or a span such as >=2026-11-30.') from None
 
 
 def _milliseconds(moment: datetime) -> int:

@@ -29,9 +29,11 @@ class JobRequests:
     def routes(self) -> list[web.RouteDef]:
         """Their routes."""
         get = self.api.get
-        return [get('/actions/runs/{run}/jobs', self.of_run), get('/actions/runs/{run}/attempts/{attempt}/jobs', self.of_attempt),
+        return [get('/actions/runs/{run}/jobs', self.of_run),
+                get('/actions/runs/{run}/attempts/{attempt}/jobs', self.of_attempt),
                 get('/actions/jobs/{job}', self.one), get('/actions/jobs/{job}/logs', self.log),
-                get('/actions/runs/{run}/logs', self.logs), get('/actions/runs/{run}/attempts/{attempt}/logs', self.logs),
+                get('/actions/runs/{run}/logs', self.logs),
+                get('/actions/runs/{run}/attempts/{attempt}/logs', self.logs),
                 self.api.on('DELETE', '/actions/runs/{run}/logs', self.drop_logs),
                 self.api.download('/jobs/{job}', self.download_log),
                 self.api.download('/runs/{run}/{attempt}', self.download_logs)]
@@ -142,7 +144,8 @@ class JobRequests:
             raise Fault(404, NO_LOG)
         with file:
             answer = web.StreamResponse(headers={
-                'Content-Type': 'application/zip', 'Content-Disposition': f'attachment; filename="logs_{run.row.run}.zip"'})
+                'Content-Type': 'application/zip',
+                'Content-Disposition': f'attachment; filename="logs_{run.row.run}.zip"'})
             self.api.mark(request, answer)
             await answer.prepare(request)
             while piece := await asyncio.to_thread(file.read, PIECE):

@@ -51,13 +51,15 @@ class Workflows:
         latest = {run.row.path: run for run in runs}
         first = {run.row.path: run for run in reversed(runs)}
         texts = {one.path: one for one in self.hub.events.workflows(repository)}
-        found = [Workflow(path, run.row.workflow, first[path].created_at, run.created_at, run, texts[path].text if path in texts else None)
+        found = [Workflow(path, run.row.workflow, first[path].created_at, run.created_at, run,
+                          texts[path].text if path in texts else None)
                  for path, run in latest.items()]
-        found += [Workflow(path, one.name, None, None, None, one.text) for path, one in texts.items() if path not in latest]
+        found += [Workflow(path, one.name, None, None, None, one.text)
+                  for path, one in texts.items() if path not in latest]
         return sorted(found, key=lambda one: (one.name or one.path, one.path))
 
     async def text(self, repository: str, path: str, ref: str) -> bytes | None:
-        """The file of a workflow as it is written at a ref, by default of the default branch; else as its latest run has it: JSON, which is YAML."""
+        """The file of a workflow at a ref, by default of the default branch; else as JSON of its latest run."""
         if ref not in ('', self.hub.config.default_branch(repository)):
             found = await self._at(repository, path, ref)
             return None if found is None else found.encode()
@@ -65,7 +67,9 @@ class Workflows:
         if known is None or known.text is not None:
             return known.text.encode() if known and known.text is not None else None
         body = await self.hub.mirror.body(known.latest.row.run) if known.latest else None
-        return None if body is None else (json.dumps(json.loads(body).get('workflow'), indent=2, ensure_ascii=False) + '\n').encode()
+        if body is None:
+            return None
+        return (json.dumps(json.loads(body).get('workflow'), indent=2, ensure_ascii=False) + '\n').encode()
 
     async def _at(self, repository: str, path: str, ref: str) -> str | None:
         events = self.hub.events

@@ -36,8 +36,9 @@ class JobView:
 
 
 def jobs_of(run: Run, whole: Whole, is_approved: bool) -> list[JobView]:
-    """The jobs of a run as it was in an attempt. One that is blocked has none yet, as at GitHub; one that has ended without legs counts as one."""
-    return [view_of(run, job, leg, JobNumber(run.row.run, whole.row.attempt, index, leg.index if leg else 0), is_approved)
+    """The jobs of a run as it was in an attempt: not those that are blocked, but those that ended without legs."""
+    return [view_of(run, job, leg, JobNumber(run.row.run, whole.row.attempt, index, leg.index if leg else 0),
+                    is_approved)
             for index, job in enumerate(whole.jobs) if job.state != 'blocked' for leg in (job.legs or (None,))]
 
 
@@ -47,7 +48,8 @@ def view_of(run: Run, job: Job, leg: Leg | None, number: JobNumber, is_approved:
     status, conclusion = 'completed', None
     if state is not None:
         waits_for = leg.waits_for.kind if leg and leg.waits_for else None
-        status, conclusion = leg_state(state, waits_for, leg is not None and not is_approved and is_approval(leg.labels, number.run))
+        status, conclusion = leg_state(state, waits_for,
+                                       leg is not None and not is_approved and is_approval(leg.labels, number.run))
     started, ended = (leg.started_at, leg.ended_at) if leg else (None, None)
     done = (ended or run.updated_at) if status == 'completed' else None
     begun = started or (done if done is not None else run.started_at)

@@ -43,9 +43,10 @@ def named_by(node: str) -> tuple[str, str] | None:
     if not node.isascii() or len(node) > 1024:
         return None
     try:
-        kind, colon, name = base64.b64decode(node + '=' * (-len(node) % 4), b'-_', validate=True).decode().partition(':')
+        text = base64.b64decode(node + '=' * (-len(node) % 4), b'-_', validate=True).decode()
     except ValueError:
         return None
+    kind, colon, name = text.partition(':')
     return (kind, name) if colon else None
 
 

@@ -36,9 +36,11 @@ class RepositoryRequests:
         """Their routes; that of what is not here comes last of all."""
         get, top = self.api.get, self.api.top
         kinds = '|'.join(('secrets', 'variables', 'permissions', 'oidc'))
-        return [top('', self.root), top('/', self.root), top('/user', self.user), top('/user/repos', self.of_user), top('/meta', self.meta),
+        return [top('', self.root), top('/', self.root), top('/user', self.user), top('/user/repos', self.of_user),
+                top('/meta', self.meta),
                 top('/rate_limit', self.rate_limit), get('', self.one), get('/actions/acts/refused', self.refused),
-                get('/actions/{kind:%s}{rest:(/.*)?}' % kinds, self.absent), get('/{kind:deployments|environments|pulls}{rest:(/.*)?}', self.absent)]
+                get('/actions/{kind:%s}{rest:(/.*)?}' % kinds, self.absent),
+                get('/{kind:deployments|environments|pulls}{rest:(/.*)?}', self.absent)]
 
     def last(self) -> list[web.RouteDef]:
         """What answers every other path below the prefix."""
@@ -50,7 +52,8 @@ class RepositoryRequests:
         require(request, Right.READ)
         api = self.api.shapes.api
         return self.api.answer(request, {
-            'current_user_url': f'{api}/user', 'rate_limit_url': f'{api}/rate_limit', 'repository_url': f'{api}/repos/{{owner}}/{{repo}}',
+            'current_user_url': f'{api}/user', 'rate_limit_url': f'{api}/rate_limit',
+            'repository_url': f'{api}/repos/{{owner}}/{{repo}}',
             'current_user_repositories_url': f'{api}/user/repos{{?type,page,per_page,sort}}'})
 
     async def user(self, request: web.Request) -> web.Response:
@@ -84,9 +87,12 @@ class RepositoryRequests:
     def shape(self, request: web.Request, name: str) -> dict[str, Any]:
         """A repository as a whole."""
         identity = require(request, Right.READ, name)
-        return {**self.api.shapes.repository(name), 'default_branch': self.hub.config.default_branch(name), 'visibility': 'private',
-                'archived': False, 'disabled': False, 'has_issues': False, 'has_projects': False, 'has_wiki': False, 'has_pages': False,
-                'has_downloads': False, 'permissions': {'admin': identity.may(Right.ADMIN, name), 'push': identity.may(Right.WRITE, name),
+        return {**self.api.shapes.repository(name), 'default_branch': self.hub.config.default_branch(name),
+                'visibility': 'private',
+                'archived': False, 'disabled': False, 'has_issues': False, 'has_projects': False, 'has_wiki': False,
+                'has_pages': False,
+                'has_downloads': False,
+                'permissions': {'admin': identity.may(Right.ADMIN, name), 'push': identity.may(Right.WRITE, name),
                                                         'pull': True}}
 
     # events that made no run
@@ -100,7 +106,8 @@ class RepositoryRequests:
 
     def refused_shape(self, one: Refused) -> dict[str, Any]:
         """An event that made no run."""
-        return {'id': one.id, 'created_at': iso(one.at), 'event': one.event, 'delivery': one.delivery, 'path': one.path, 'ref': one.ref,
+        return {'id': one.id, 'created_at': iso(one.at), 'event': one.event, 'delivery': one.delivery, 'path': one.path,
+                'ref': one.ref,
                 'head_sha': one.sha, 'code': one.code, 'line': one.line, 'message': one.words, 'advice': one.advice}
 
     # what is not here

@@ -13,7 +13,8 @@ from .numbers import decimal, number_of
 from .pages import Page
 
 ONLINE_SECONDS = 60
-NOT_REGISTERED = 'A runner is not registered by the API: make a token with acts-hub token, and start acts-runner with it.'
+NOT_REGISTERED = ('A runner is not registered by the API: make a token with acts-hub token, '
+                  'and start acts-runner with it.')
 
 
 class RunnerRequests:
@@ -26,7 +27,8 @@ class RunnerRequests:
         """Their routes."""
         get, on = self.api.get, self.api.on
         return [get('/actions/runners', self.of_repository), get('/actions/runners/{runner:[0-9]+}', self.one),
-                get('/actions/runners/{runner:[0-9]+}/labels', self.labels), self.api.top('/orgs/{org}/actions/runners', self.of_organisation),
+                get('/actions/runners/{runner:[0-9]+}/labels', self.labels),
+                self.api.top('/orgs/{org}/actions/runners', self.of_organisation),
                 on('POST', '/actions/runners/{kind:registration-token|remove-token|generate-jitconfig}', self.register)]
 
     async def of_repository(self, request: web.Request) -> web.Response:

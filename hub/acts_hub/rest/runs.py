@@ -17,6 +17,7 @@ from .pages import Page
 FAILED = (46, 47, 50, 51, 52, 60)  # refusals that are of no request
 NOT_AGAIN = 'The service runs a whole run again; it can not yet run its failed jobs alone.'
 NOT_ONE = 'The service runs a whole run again; it can not run one job again.'
+NO_DEBUG = 'Debug logging can not be turned on for a re-run: set ACTIONS_STEP_DEBUG where the runner runs.'
 NOT_FORCED = 'The service can not yet end a run whatever its runners do; cancel asks them to stop.'
 
 
@@ -30,10 +31,14 @@ class RunRequests:
         """Their routes."""
         get, on = self.api.get, self.api.on
         return [get('/actions/runs', self.of_repository), get('/actions/runs/{run}', self.one),
-                get('/actions/runs/{run}/attempts/{attempt}', self.attempt), get('/actions/runs/{run}/timing', self.timing),
-                get('/actions/workflows/{workflow}/runs', self.of_workflow), on('POST', '/actions/runs/{run}/cancel', self.cancel),
-                on('POST', '/actions/runs/{run}/force-cancel', self.force_cancel), on('POST', '/actions/runs/{run}/rerun', self.rerun),
-                on('POST', '/actions/runs/{run}/rerun-failed-jobs', self.rerun_failed), on('POST', '/actions/jobs/{job}/rerun', self.rerun_job),
+                get('/actions/runs/{run}/attempts/{attempt}', self.attempt),
+                get('/actions/runs/{run}/timing', self.timing),
+                get('/actions/workflows/{workflow}/runs', self.of_workflow),
+                on('POST', '/actions/runs/{run}/cancel', self.cancel),
+                on('POST', '/actions/runs/{run}/force-cancel', self.force_cancel),
+                on('POST', '/actions/runs/{run}/rerun', self.rerun),
+                on('POST', '/actions/runs/{run}/rerun-failed-jobs', self.rerun_failed),
+                on('POST', '/actions/jobs/{job}/rerun', self.rerun_job),
                 on('DELETE', '/actions/runs/{run}', self.delete)]
 
     # what is read
@@ -113,7 +118,7 @@ class RunRequests:
         repository, identity = self.api.writable(request)
         run = self.api.run(request, repository)
         if (await self.api.body(request)).get('enable_debug_logging'):
-            raise Fault(422, 'Debug logging can not be turned on for a re-run: set ACTIONS_STEP_DEBUG where the runner runs.')
+            raise Fault(422, NO_DEBUG)
         if run.row.status != 'completed':
             raise Fault(403, 'This workflow is already running')
         attempt = run.row.attempt + 1

@@ -34,7 +34,8 @@ class Shapes:
     def user(self, login: str) -> Shape:
         """A simple user."""
         name = quote(login)
-        return {'login': login, 'id': number_of('user', login.lower()), 'node_id': node_of('User', login), 'avatar_url': '',
+        return {'login': login, 'id': number_of('user', login.lower()), 'node_id': node_of('User', login),
+                'avatar_url': '',
                 'gravatar_id': '', 'url': f'{self.api}/users/{name}', 'html_url': f'{self.web}/{name}', 'type': 'User',
                 'site_admin': False}
 
@@ -45,9 +46,12 @@ class Shapes:
     def repository(self, name: str) -> Shape:
         """A minimal repository."""
         owner, _, short = name.partition('/')
-        return {'id': number_of('repo', name.lower()), 'node_id': node_of('Repository', name), 'name': short, 'full_name': name,
-                'private': True, 'owner': self.user(owner), 'html_url': f'{self.web}/{name}', 'description': None, 'fork': False,
-                'url': self.at(name), 'statuses_url': self.at(name, 'statuses/{sha}'), 'commits_url': self.at(name, 'commits{/sha}'),
+        return {'id': number_of('repo', name.lower()), 'node_id': node_of('Repository', name), 'name': short,
+                'full_name': name,
+                'private': True, 'owner': self.user(owner), 'html_url': f'{self.web}/{name}', 'description': None,
+                'fork': False,
+                'url': self.at(name), 'statuses_url': self.at(name, 'statuses/{sha}'),
+                'commits_url': self.at(name, 'commits{/sha}'),
                 'contents_url': self.at(name, 'contents/{+path}'), 'deployments_url': self.at(name, 'deployments')}
 
     def at(self, repository: str, path: str = '') -> str:
@@ -73,7 +77,8 @@ class Shapes:
             'head_branch': facts.branch, 'head_sha': facts.sha or '', 'path': row.path, 'display_title': title,
             'run_number': row.number, 'event': row.event, 'status': row.status, 'conclusion': run.conclusion,
             'workflow_id': workflow, 'check_suite_id': row.run, 'check_suite_node_id': node_of('CheckSuite', row.run),
-            'url': here, 'html_url': self.run_page(run), 'pull_requests': self.pulls(run), 'created_at': iso(run.created_at),
+            'url': here, 'html_url': self.run_page(run), 'pull_requests': self.pulls(run),
+            'created_at': iso(run.created_at),
             'updated_at': iso(run.updated_at), 'actor': self.user_or_none(facts.actor), 'run_attempt': row.attempt,
             'referenced_workflows': [], 'run_started_at': iso(run.started_at),
             'triggering_actor': self.user_or_none(run.triggering_actor or facts.actor), 'jobs_url': f'{here}/jobs',
@@ -89,7 +94,8 @@ class Shapes:
         if number is None:
             return []
         home, head = self.brief_repository(name), self.brief_repository(facts.head_repository or name)
-        return [{'id': number_of('pull', name.lower(), str(number)), 'number': number, 'url': self.at(name, f'pulls/{number}'),
+        return [{'id': number_of('pull', name.lower(), str(number)), 'number': number,
+                 'url': self.at(name, f'pulls/{number}'),
                  'head': {'ref': facts.branch, 'sha': facts.sha or '', 'repo': head},
                  'base': {'ref': facts.base_ref or '', 'sha': '', 'repo': home}}]
 
@@ -103,7 +109,8 @@ class Shapes:
         if facts.sha is None or facts.message is None:
             return None
         person = {'name': facts.author or '', 'email': facts.author_email or ''}
-        return {'id': facts.sha, 'tree_id': '', 'message': facts.message, 'timestamp': iso(run.created_at), 'author': person,
+        return {'id': facts.sha, 'tree_id': '', 'message': facts.message, 'timestamp': iso(run.created_at),
+                'author': person,
                 'committer': person}
 
     def job(self, run: Run, view: JobView, steps: list[Shape]) -> Shape:
@@ -112,8 +119,10 @@ class Shapes:
         name = row.repository
         return {
             'id': view.value, 'run_id': row.run, 'run_url': self.at(name, f'actions/runs/{row.run}'),
-            'run_attempt': view.number.attempt, 'node_id': node_of('CheckRun', view.value), 'head_sha': run.facts.sha or '',
-            'url': self.at(name, f'actions/jobs/{view.value}'), 'html_url': self.job_page(run, view), 'status': view.status,
+            'run_attempt': view.number.attempt, 'node_id': node_of('CheckRun', view.value),
+            'head_sha': run.facts.sha or '',
+            'url': self.at(name, f'actions/jobs/{view.value}'), 'html_url': self.job_page(run, view),
+            'status': view.status,
             'conclusion': view.conclusion, 'created_at': iso(view.created_at), 'started_at': iso(view.started_at),
             'completed_at': iso_or_none(view.completed_at), 'name': view.name, 'steps': steps,
             'check_run_url': self.at(name, f'check-runs/{view.value}'), 'labels': list(view.labels),
@@ -128,21 +137,24 @@ class Shapes:
     def step(self, number: int, name: str, status: str, conclusion: str | None, started_at: int | None,
              completed_at: int | None) -> Shape:
         """A step of a job."""
-        return {'name': name, 'status': status, 'conclusion': conclusion, 'number': number, 'started_at': iso_or_none(started_at),
+        return {'name': name, 'status': status, 'conclusion': conclusion, 'number': number,
+                'started_at': iso_or_none(started_at),
                 'completed_at': iso_or_none(completed_at)}
 
     @property
     def app(self) -> Shape:
         """The app that makes checks."""
         return {'id': number_of('app', 'acts'), 'slug': 'acts', 'node_id': node_of('App', 'acts'), 'name': 'acts',
-                'description': 'Runs of workflows', 'external_url': self.web, 'html_url': self.web, 'permissions': {}, 'events': []}
+                'description': 'Runs of workflows', 'external_url': self.web, 'html_url': self.web, 'permissions': {},
+                'events': []}
 
     def check_run(self, run: Run, view: JobView, annotations: int) -> Shape:
         """A job as a check run."""
         here = self.at(run.row.repository, f'check-runs/{view.value}')
         output = {'title': None, 'summary': None, 'text': None, 'annotations_count': annotations,
                   'annotations_url': f'{here}/annotations'}
-        return {'id': view.value, 'name': view.name, 'node_id': node_of('CheckRun', view.value), 'head_sha': run.facts.sha or '',
+        return {'id': view.value, 'name': view.name, 'node_id': node_of('CheckRun', view.value),
+                'head_sha': run.facts.sha or '',
                 'external_id': str(view.value), 'url': here, 'html_url': self.job_page(run, view),
                 'details_url': self.job_page(run, view), 'status': view.status, 'conclusion': view.conclusion,
                 'started_at': iso(view.started_at), 'completed_at': iso_or_none(view.completed_at), 'output': output,
@@ -152,16 +164,20 @@ class Shapes:
         """A run as a check suite."""
         row, here = run.row, self.at(run.row.repository, f'check-suites/{run.row.run}')
         return {'id': row.run, 'node_id': node_of('CheckSuite', row.run), 'head_branch': run.facts.branch,
-                'head_sha': run.facts.sha or '', 'status': suite_status(row.status), 'conclusion': run.conclusion, 'url': here,
+                'head_sha': run.facts.sha or '', 'status': suite_status(row.status), 'conclusion': run.conclusion,
+                'url': here,
                 'before': None, 'after': run.facts.sha, 'pull_requests': self.pulls(run), 'app': self.app,
-                'repository': self.repository(row.repository), 'created_at': iso(run.created_at), 'updated_at': iso(run.updated_at),
-                'head_commit': self.commit(run), 'latest_check_runs_count': jobs, 'check_runs_url': f'{here}/check-runs',
+                'repository': self.repository(row.repository), 'created_at': iso(run.created_at),
+                'updated_at': iso(run.updated_at),
+                'head_commit': self.commit(run), 'latest_check_runs_count': jobs,
+                'check_runs_url': f'{here}/check-runs',
                 'rerequestable': False, 'runs_rerequestable': False}
 
     def status(self, run: Run) -> Shape:
         """A run as a status of its commit."""
         row = run.row
-        return {'id': row.run, 'node_id': node_of('StatusContext', row.run), 'avatar_url': None, 'state': commit_state(run.conclusion),
+        return {'id': row.run, 'node_id': node_of('StatusContext', row.run), 'avatar_url': None,
+                'state': commit_state(run.conclusion),
                 'description': run.conclusion or row.status, 'target_url': self.run_page(run),
                 'context': context_of(row.workflow, row.path, row.event), 'created_at': iso(run.created_at),
                 'updated_at': iso(run.updated_at), 'url': self.at(row.repository, f'statuses/{run.facts.sha or ""}'),
@@ -171,21 +187,26 @@ class Shapes:
         """An event that made no run as a status of its commit."""
         where = f'line {one.line}: ' if one.line else ''
         return {'id': one.id, 'node_id': node_of('Refused', one.id), 'avatar_url': None, 'state': 'error',
-                'description': (where + one.words)[:MAX_DESCRIPTION], 'target_url': f'{self.web}/{one.repository}/actions/refused',
-                'context': context_of('', one.path or '', one.event), 'created_at': iso(one.at), 'updated_at': iso(one.at),
+                'description': (where + one.words)[:MAX_DESCRIPTION],
+                'target_url': f'{self.web}/{one.repository}/actions/refused',
+                'context': context_of('', one.path or '', one.event), 'created_at': iso(one.at),
+                'updated_at': iso(one.at),
                 'url': self.at(one.repository, f'statuses/{one.sha or ""}'), 'creator': None}
 
     def annotation(self, given: Mapping[str, Any]) -> Shape:
         """What a step said of a file, or of the run: then the file is `.github`, as at GitHub."""
         line = given.get('start_line') or 1
-        return {'path': given.get('path') or '.github', 'blob_href': '', 'start_line': line, 'start_column': given.get('start_column'),
+        return {'path': given.get('path') or '.github', 'blob_href': '', 'start_line': line,
+                'start_column': given.get('start_column'),
                 'end_line': given.get('end_line') or line, 'end_column': given.get('end_column'), 'raw_details': '',
-                'annotation_level': given.get('annotation_level'), 'title': given.get('title') or '', 'message': given.get('message') or ''}
+                'annotation_level': given.get('annotation_level'), 'title': given.get('title') or '',
+                'message': given.get('message') or ''}
 
     def workflow(self, repository: str, path: str, name: str, created_at: int | None, updated_at: int | None) -> Shape:
         """A workflow."""
         number, short = self.workflow_number(repository, path), quote(path.rpartition('/')[2])
-        return {'id': number, 'node_id': node_of('Workflow', number), 'name': name or path, 'path': path, 'state': 'active',
+        return {'id': number, 'node_id': node_of('Workflow', number), 'name': name or path, 'path': path,
+                'state': 'active',
                 'created_at': iso_or_none(created_at), 'updated_at': iso_or_none(updated_at),
                 'url': self.at(repository, f'actions/workflows/{number}'),
                 'html_url': f'{self.web}/{repository}/actions/workflows/{short}',
@@ -195,18 +216,22 @@ class Shapes:
         """A runner; its system is known if a label says it."""
         known = labels or ()
         system = next((label.lower() for label in known if label.lower() in SYSTEMS), 'unknown')
-        return {'id': number_of('runner', name), 'name': name, 'os': system, 'status': 'online' if is_online else 'offline',
+        return {'id': number_of('runner', name), 'name': name, 'os': system,
+                'status': 'online' if is_online else 'offline',
                 'busy': is_busy, 'runner_group_id': 1, 'labels': [self.label(label) for label in known]}
 
     def label(self, name: str) -> Shape:
         """A label of a runner."""
         return {'id': number_of('label', name.lower()), 'name': name, 'type': 'custom'}
 
-    def artifact(self, run: Run, number: int, name: str, size: int, digest: str, created_at: int, expires_at: int, expired: bool) -> Shape:
+    def artifact(self, run: Run, number: int, name: str, size: int, digest: str, created_at: int, expires_at: int,
+                 expired: bool) -> Shape:
         """An artifact of a run."""
-        here, repository = self.at(run.row.repository, f'actions/artifacts/{number}'), number_of('repo', run.row.repository.lower())
+        here = self.at(run.row.repository, f'actions/artifacts/{number}')
+        repository = number_of('repo', run.row.repository.lower())
         return {'id': number, 'node_id': node_of('Artifact', number), 'name': name, 'size_in_bytes': size, 'url': here,
-                'archive_download_url': f'{here}/zip', 'expired': expired, 'digest': f'sha256:{digest}', 'created_at': iso(created_at),
+                'archive_download_url': f'{here}/zip', 'expired': expired, 'digest': f'sha256:{digest}',
+                'created_at': iso(created_at),
                 'updated_at': iso(created_at), 'expires_at': iso(expires_at),
                 'workflow_run': {'id': run.row.run, 'repository_id': repository, 'head_repository_id': repository,
                                  'head_branch': run.facts.branch, 'head_sha': run.facts.sha or ''}}

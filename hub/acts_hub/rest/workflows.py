@@ -27,13 +27,15 @@ class WorkflowRequests:
         get, on = self.api.get, self.api.on
         return [get('/actions/workflows', self.of_repository), get('/actions/workflows/{workflow}', self.one),
                 get('/actions/workflows/{workflow}/timing', self.timing), get('/contents/{path:.+}', self.contents),
-                on('POST', '/actions/workflows/{workflow}/dispatches', self.dispatch), on('POST', '/dispatches', self.repository_dispatch),
+                on('POST', '/actions/workflows/{workflow}/dispatches', self.dispatch),
+                on('POST', '/dispatches', self.repository_dispatch),
                 on('PUT', '/actions/workflows/{workflow}/{state:enable|disable}', self.enable)]
 
     async def of_repository(self, request: web.Request) -> web.Response:
         """The workflows of a repository."""
         repository = self.api.repository(request)
-        return self.api.listed(request, 'workflows', [self.shape(repository, one) for one in self.api.workflows.of(repository)])
+        return self.api.listed(request, 'workflows',
+                               [self.shape(repository, one) for one in self.api.workflows.of(repository)])
 
     def shape(self, repository: str, one: Workflow) -> dict[str, object]:
         """A workflow."""
@@ -61,7 +63,8 @@ class WorkflowRequests:
         sha = hashlib.sha1(b'blob %d\0' % len(text) + text).hexdigest()
         return self.api.answer(request, {
             'type': 'file', 'encoding': 'base64', 'size': len(text), 'name': path.rpartition('/')[2], 'path': path,
-            'content': base64.encodebytes(text).decode(), 'sha': sha, 'url': self.api.shapes.at(repository, f'contents/{path}'),
+            'content': base64.encodebytes(text).decode(), 'sha': sha,
+            'url': self.api.shapes.at(repository, f'contents/{path}'),
             'git_url': None, 'html_url': None, 'download_url': None})
 
     async def enable(self, request: web.Request) -> web.Response:
