@@ -22,7 +22,7 @@ EPOCH = datetime.date(1970, 1, 1).toordinal()
 
 @dataclass(frozen=True)
 class Cron:
-    """The times that a text of cron means. A day has to fit both its lists, or one of them if neither begins with `*`."""
+    """The times that a text of cron means. A day has to fit both its lists, or one if neither begins with `*`."""
 
     minutes: tuple[int, ...]
     hours: tuple[int, ...]

@@ -25,7 +25,7 @@ def inputs_of(forms: Any, given: Mapping[str, Known]) -> dict[str, Known]:
 
 
 def dispatched(forms: Any, given: Any) -> dict[str, Known]:
-    """The inputs of a workflow that is started by hand. One that the workflow does not name is a fault, as at GitHub."""
+    """The inputs of a workflow that is started by hand. One that it does not name is a fault, as at GitHub."""
     listed, values = forms_of(forms), given or {}
     if not isinstance(values, dict):
         raise Fault('the inputs are no object')

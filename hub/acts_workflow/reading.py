@@ -66,7 +66,7 @@ def check_nesting(text: str) -> None:
 
 
 class Copy:
-    """Copies values with texts as the names of members. Aliases are followed, of which a few can make very many values."""
+    """Copies values with texts as the names of members. A few aliases can make very many values."""
 
     def __init__(self) -> None:
         self.values = 0
@@ -102,7 +102,7 @@ def steps_of(place: str) -> Iterator[str | int]:
 
 
 def line_of(text: str, place: str) -> int | None:
-    """The line, from 1, on which a place of a workflow's YAML begins, or else what is nearest around it. None without YAML."""
+    """The line, from 1, on which a place of a workflow begins, or what is nearest around it. None without YAML."""
     try:
         check_nesting(text)
         node = cast(Any, yaml.compose)(text, Loader)

@@ -134,3 +134,15 @@ def test_a_branch_or_tag_that_is_named(check: Check) -> None:
     text = '{on: {push: {tags: [v*]}}, jobs: {a: {runs-on: linux, if: "github.ref_type == \'tag\'", steps: [{run: "true"}]}}}'
     assert check(text, '--ref', 'refs/tags/v1', '--no-runner') == (0, ['no fault, on refs/tags/v1'])
     assert check(text, '--no-runner')[1][0].endswith('starts nothing on refs/heads/main: it asks for tags alone')
+
+
+def test_starters_are_sent_and_taken() -> None:
+    """The starters of examples, on `main`, with the environment that one of them names: nothing of them is refused."""
+    import argparse
+    from acts_hub.commands.check import checker_of
+    starters = sorted((HUB.parent / 'examples/starters').glob('*.yml'))
+    assert len(starters) >= 20
+    for path in starters:
+        given = argparse.Namespace(file=path, program=acts(), config=None, repository='octo/hello', ref='refs/heads/main', vars=None,
+                                   environment=['production=approval'], pull_request_target=True, no_runner=True, mirrors=None, actions=None)
+        assert [finding.text(path.name) for finding in checker_of(given).findings() if finding.fault] == [], path.name

@@ -40,9 +40,9 @@ def test_what_json_does_not_have(value: float) -> None:
 
 def test_a_huge_payload_takes_no_time() -> None:
     payload = {'commits': [{'message': 'm' * 1000, 'files': list(range(100))}] * 20000, 'ref': 'r'}
-    began = time.monotonic()
+    began = time.process_time()
     assert json.loads(body_of({'github': {}}, payload))['github']['event'] == {'ref': 'r'}
-    assert time.monotonic() - began < 10
+    assert time.process_time() - began < 10
 
 
 def test_markup_and_odd_characters_pass_as_they_are() -> None:

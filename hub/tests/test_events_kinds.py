@@ -165,7 +165,7 @@ def test_pull_requests_of_forks() -> None:
 def test_each_event_is_taken_from_one_place() -> None:
     """What is made here, or needs a token, is not taken from a webhook under the same name."""
     assert not BY_WEBHOOK & {'workflow_dispatch', 'schedule', 'workflow_run', 'pull_request_target'}
-    assert BY_WEBHOOK <= RULES.keys() and set(NOT_TAKEN) <= {'workflow_call', 'workflow_dispatch'}
+    assert BY_WEBHOOK <= RULES.keys() and set(NOT_TAKEN) <= {'workflow_call', 'workflow_dispatch', 'repository_dispatch'}
 
 
 def test_a_path_of_a_mirror_can_not_leave_its_folder(tmp_path: pathlib.Path) -> None:

@@ -46,10 +46,10 @@ def test_a_text_that_doubles_is_bounded() -> None:
     text = "'" + 100 * 'a' + "'"
     for _ in range(12):
         text = f"format('{'{0}' * 10}', {text})"
-    began = time.monotonic()
+    began = time.process_time()
     with pytest.raises(Fault, match='a text of over'):
         evaluated(read(text), Scope({}))
-    assert time.monotonic() - began < 2
+    assert time.process_time() - began < 2
 
 
 def test_what_does_not_count_is_not_evaluated() -> None:
@@ -81,9 +81,9 @@ def test_whole_and_open() -> None:
 
 @pytest.mark.parametrize('text', ['${{' * 100000, "${{ " + "''" * 100000, "${{ " + "'a' " * 100000 + '}}', '}}' * 100000], ids='abcd')
 def test_braces_of_a_huge_text_take_no_time(text: str) -> None:
-    began = time.monotonic()
+    began = time.process_time()
     parts(text)
-    assert time.monotonic() - began < 2
+    assert time.process_time() - began < 2
 
 
 @pytest.mark.parametrize('value, wanted', [(1.50, '1.5'), (1e21, '1E+21'), (True, 'true'), (None, ''), ([1], 'Array'), ({}, 'Object'),

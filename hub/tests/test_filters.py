@@ -58,9 +58,9 @@ def test_patterns_agree_with_their_regular_expressions() -> None:
 
 @pytest.mark.parametrize('pattern', ['[a-z]+' * 100 + '!', '*a' * 300 + 'b', '**a' * 300 + 'b', 'a?' * 400 + 'b'], ids='abcd')
 def test_a_pattern_takes_no_time_that_grows_with_its_power(pattern: str) -> None:
-    began = time.monotonic()
+    began = time.process_time()
     assert not Pattern(pattern).matches('a' * 500)
-    assert time.monotonic() - began < 3
+    assert time.process_time() - began < 3
 
 
 def test_the_last_pattern_that_matches_decides() -> None:

@@ -52,10 +52,10 @@ BOMB = 'a: &a [x, x, x, x, x, x, x, x, x]\n' + ''.join(
     'a: \0', '[' * 100_000, '{a: ' * 20_000, '- ' * 100_000, '? ' * 100_000, 'a: ' + '[' * 101 + ']' * 101, 'x' * (1 << 21), 'a: *b', '%YAML 9.9\n--- x',
     'a: 1\n---\nb: 2', 'a: !!timestamp 2020-01-01', 'a: ' + '9' * 5000], ids=range(22))
 def test_no_workflow(text: str) -> None:
-    began = time.monotonic()
+    began = time.process_time()
     with pytest.raises(Fault):
         read(text)
-    assert time.monotonic() - began < 5
+    assert time.process_time() - began < 5
     line_of(text, 'a')
 
 
@@ -66,6 +66,6 @@ def test_a_fault_of_yaml_has_its_line() -> None:
 
 
 def test_the_largest_that_is_read_takes_seconds_at_most() -> None:
-    began = time.monotonic()
+    began = time.process_time()
     read('jobs:\n' + ''.join(f'  job_{n}: {{runs-on: linux}}\n' for n in range(10_000)))
-    assert time.monotonic() - began < 5
+    assert time.process_time() - began < 5

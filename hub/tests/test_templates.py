@@ -190,10 +190,10 @@ def test_the_name_of_a_run_is_folded_as_far_as_it_is_known() -> None:
 def test_expressions_that_make_much_are_stopped(job: Any, monkeypatch: pytest.MonkeyPatch) -> None:
     monkeypatch.setattr(templates, 'SECONDS', 1)
     event = {'commits': [{'message': 'm' * 1000}] * 500}
-    began = time.monotonic()
+    began = time.process_time()
     with pytest.raises(Fault, match='make over|take over'):
         Folding({'github': {'event': event}, 'inputs': {}, 'vars': {}}, {'e': False}).sent({'jobs': {'a': {'runs-on': 'x', **job}}})
-    assert time.monotonic() - began < 5
+    assert time.process_time() - began < 5
 
 
 def test_more_jobs_than_there_may_be() -> None:

@@ -22,7 +22,7 @@ def add(parsers: Any) -> None:
     parser = parsers.add_parser('check', help='judge a workflow before it is pushed')
     parser.add_argument('file', type=pathlib.Path, metavar='FILE')
     parser.add_argument('--program', default='acts', help='the program of the service (acts)')
-    parser.add_argument('--config', type=pathlib.Path, metavar='FILE', help="the hub's configuration, for what it allows")
+    parser.add_argument('--config', type=pathlib.Path, metavar='FILE', help="the hub's configuration")
     parser.add_argument('--repository', default='octo/hello', metavar='OWNER/NAME', help='the repository (octo/hello)')
     parser.add_argument('--ref', help='the branch or tag, such as refs/heads/main (the branch that is checked out)')
     parser.add_argument('--vars', type=pathlib.Path, metavar='FILE', help='variables of repositories, as a JSON object')
@@ -45,7 +45,7 @@ def run(given: argparse.Namespace) -> int:
     for finding in findings:
         print(finding.text(checker.path))
     faults = sum(finding.fault for finding in findings)
-    print(f'{faults} {"fault" if faults == 1 else "faults"}, on {checker.ref}' if faults else f'no fault, on {checker.ref}')
+    print(f'{faults or "no"} {"faults" if faults > 1 else "fault"}, on {checker.ref}')
     return 1 if faults else 0
 
 
@@ -63,9 +63,9 @@ def checker_of(given: argparse.Namespace) -> Checker:
     for other in sorted((folder / '.github/workflows').glob('*.y*ml')):
         if other.is_file() and not other.is_symlink():
             texts.setdefault(str(other.relative_to(folder)), read(other))
-    runner = None if given.no_runner else Options(name='check', labels='check', mirrors=given.mirrors, actions=given.actions,
-                                                  environment=tuple(repository.environments))
-    return Checker(folder, name, ref, repository, variables, given.program, runner, texts)
+    runner = Options(name='check', labels='check', mirrors=given.mirrors, actions=given.actions,
+                     environment=tuple(repository.environments))
+    return Checker(folder, name, ref, repository, variables, given.program, None if given.no_runner else runner, texts)
 
 
 def read(path: pathlib.Path) -> str:
@@ -98,5 +98,6 @@ def variables_of(path: pathlib.Path, repository: str) -> dict[str, Any]:
 
 def branch_of(folder: pathlib.Path) -> str:
     """The branch that is checked out; an empty text if there is none."""
-    done = subprocess.run(['git', '-C', str(folder), 'symbolic-ref', '--quiet', '--short', 'HEAD'], capture_output=True, text=True)
+    words = 'git', '-C', str(folder), 'symbolic-ref', '--quiet', '--short', 'HEAD'
+    done = subprocess.run(words, capture_output=True, text=True)
     return done.stdout.strip()

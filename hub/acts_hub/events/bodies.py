@@ -15,7 +15,7 @@ from .settings import Repository, Settings
 from .templates import Folding, Note
 
 Tree = dict[str, Any]
-KEPT = 'html_url', 'clone_url'  # addresses of a payload that are passed on; the others are those of an API that has no such runs
+KEPT = 'html_url', 'clone_url'  # addresses of a payload that are passed on; the others are those of an API
 LEFT_OUT = '', 'addresses of the API', 'addresses of the API, lists', 'all but texts and numbers', 'all'
 
 
@@ -29,7 +29,9 @@ class Server:
     def urls(self, payload: Mapping[str, Any]) -> dict[str, str]:
         """`server_url` is where the runs are, this hub; the others are those of the server that sent the event."""
         page, name = at(payload, 'repository', 'html_url'), at(payload, 'repository', 'full_name')
-        sender = page[:-len(name) - 1] if isinstance(page, str) and isinstance(name, str) and page.endswith('/' + name) else ''
+        sender = ''
+        if isinstance(page, str) and isinstance(name, str) and page.endswith('/' + name):
+            sender = page[:-len(name) - 1]
         made = {'server_url': self.settings.server_url or self.hub_url}
         api = self.settings.api_url or api_of(sender)
         if api:
@@ -47,8 +49,8 @@ def api_of(server: str) -> str:
 
 def identified(payload: Mapping[str, Any]) -> dict[str, str]:
     """The ids that a payload has."""
-    found = {'repository_id': at(payload, 'repository', 'id'), 'repository_owner_id': at(payload, 'repository', 'owner', 'id'),
-             'actor_id': at(payload, 'sender', 'id')}
+    found = {'repository_id': at(payload, 'repository', 'id'),
+             'repository_owner_id': at(payload, 'repository', 'owner', 'id'), 'actor_id': at(payload, 'sender', 'id')}
     return {name: str(value) for name, value in found.items() if isinstance(value, int) and not isinstance(value, bool)}
 
 
@@ -61,7 +63,8 @@ def context(occasion: Occasion, payload: Mapping[str, Any], workflow: Tree, path
              'workflow': text_of(workflow.get('name')) or path, 'workflow_ref': f'{name}/{path}@{occasion.ref}',
              'workflow_sha': occasion.commit, 'actor': actor, 'triggering_actor': actor}
     if repository.protected is not None:
-        made['ref_protected'] = occasion.ref.startswith('refs/heads/') and chosen(made['ref_name'], list(repository.protected))
+        is_branch = occasion.ref.startswith('refs/heads/')
+        made['ref_protected'] = is_branch and chosen(made['ref_name'], list(repository.protected))
     return made
 
 
@@ -93,7 +96,8 @@ def encoded(envelope: Tree) -> bytes | None:
 def body_of(envelope: Tree, payload: Mapping[str, Any]) -> bytes:
     """The bytes of an event, with as much of the payload as fits. What is left out is said in `left_out`."""
     scalars = {name: value for name, value in payload.items() if not isinstance(value, (dict, list))}
-    forms: tuple[Callable[[], Any], ...] = (lambda: trimmed(payload, False), lambda: trimmed(payload, True), lambda: scalars, dict)
+    forms: tuple[Callable[[], Any], ...] = (lambda: trimmed(payload, False), lambda: trimmed(payload, True),
+                                            lambda: scalars, dict)
     for form, left_out in zip(forms, LEFT_OUT[1:]):
         body = encoded({**envelope, 'github': {**envelope['github'], 'event': form()}, 'left_out': left_out})
         if body is not None:
@@ -112,7 +116,7 @@ class Sent:
 
 @dataclass(frozen=True)
 class Source:
-    """What an event is made from: the texts of the workflows of its commit, the variables, and where it is sent from."""
+    """What an event is made from: the texts of its commit's workflows, the variables, and where it is sent from."""
 
     repository: Repository
     occasion: Occasion

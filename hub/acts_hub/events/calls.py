@@ -63,7 +63,8 @@ def in_place(workflow: Tree, known: Folding) -> Tree:
 def check_needs(name: str, job: Tree, placed: Mapping[str, Jobs]) -> None:
     """Faults a job that needs a called workflow in a way that its jobs can't stand for."""
     for needed in sorted(set(needs_of(job)) & placed.keys()):
-        if re.search(rf"\bneeds\s*(\.\s*{re.escape(needed)}(?![\w-])|\[\s*'{re.escape(needed)}')", json.dumps(job), re.I):
+        name_of = re.escape(needed)
+        if re.search(rf"\bneeds\s*(\.\s*{name_of}(?![\w-])|\[\s*'{name_of}')", json.dumps(job), re.I):
             raise Fault(f'it asks for needs.{needed}, which calls a workflow', f'jobs.{name}')
         conditions = [inner.get('if', True) for inner in placed[needed].values()]
         if any(each not in RUN_ON_SUCCESS for each in conditions) and not all(each is False for each in conditions):
@@ -71,7 +72,7 @@ def check_needs(name: str, job: Tree, placed: Mapping[str, Jobs]) -> None:
 
 
 def with_needs(inner: Tree, job: Tree, placed: Mapping[str, Jobs], is_called: bool) -> Tree:
-    """A job that waits for the jobs of called workflows, and if it is one of these itself, for what its caller needs."""
+    """A job that waits for the jobs of called workflows, and if it is one of them, for what its caller needs."""
     needs = needs_of(inner) + (needs_of(job) if is_called else [])
     listed = [place for name in needs for place in placed.get(name, [name])]
     return {**inner, 'needs': list(dict.fromkeys(listed))} if listed else inner
@@ -152,7 +153,8 @@ def jobs_of_call(name: str, job: Tree, called: Tree, known: Folding, given: Mapp
     """The jobs of a called workflow that gets these inputs."""
     place, inner = f'jobs.{name}', known.within(given)
     workflow = inner.workflow(called)
-    known.notes += [type(note)(note.number, f'{place}: {path_of(job)}: {note.place}', note.text) for note in inner.notes]
+    known.notes += [type(note)(note.number, f'{place}: {path_of(job)}: {note.place}', note.text)
+                    for note in inner.notes]
     jobs = without_skipped({id: with_settings(workflow, each) for id, each in workflow['jobs'].items()})
     jobs = conditioned(one_group(jobs, job, workflow, place), job, place)
     ids = {id: f'{name}__{id}' for id in jobs}
@@ -177,7 +179,8 @@ def are_apart(strategy: Any, rows: list[Row]) -> bool:
                               and 'max-parallel' not in strategy)
 
 
-def jobs_of_rows(name: str, job: Tree, rows: list[Row], called: Tree, forms: Mapping[str, Tree], known: Folding) -> Jobs:
+def jobs_of_rows(name: str, job: Tree, rows: list[Row], called: Tree, forms: Mapping[str, Tree],
+                 known: Folding) -> Jobs:
     """The jobs of a called workflow for each combination of the call."""
     place = f'jobs.{name}'
     if not are_apart(job['strategy'], rows):

@@ -1,4 +1,4 @@
-"""Judges a workflow before it is pushed: which of its events start nothing, and what hub, service and runner would refuse."""
+"""Judges a workflow before it is pushed: which events start nothing, and what hub, service and runner refuse."""
 from __future__ import annotations
 
 import json
@@ -122,7 +122,8 @@ class Checker:
                     yield Finding(event, str(fault), self.at(f'on.{event}.{kind}'))
         for text in map(text_of, as_list(given.get('types', []))):
             if event in TYPES and text not in TYPES[event]:
-                yield Finding(event, f'starts nothing at the type {text}: GitHub sends none of this name', self.at(f'on.{event}.types'))
+                words = f'starts nothing at the type {text}: GitHub sends none of this name'
+                yield Finding(event, words, self.at(f'on.{event}.types'))
 
     def happening(self, event: str, given: Any) -> Happening:
         """An event on this branch or tag that has the first of its types."""
@@ -135,13 +136,14 @@ class Checker:
     def source(self, event: str, workflow: dict[str, Any]) -> Source:
         """What an event is made from, with a payload of its form."""
         name, branch = self.repository.name, self.ref.split('/', 2)[2]
-        payload: dict[str, Any] = {'ref': self.ref, 'repository': {'full_name': name, 'owner': {'login': name.split('/')[0]}},
-                                   'sender': {'login': 'octocat'}}
+        repository = {'full_name': name, 'owner': {'login': name.split('/')[0]}}
+        payload: dict[str, Any] = {'ref': self.ref, 'repository': repository, 'sender': {'login': 'octocat'}}
         occasion = Occasion(Happening(event, None, 'branches', branch), SHA, SHA, self.ref)
         if RULES[event].place == 'pull':
             end = {'ref': branch, 'sha': SHA, 'repo': {'full_name': name}}
             payload.update(action='opened', number=1, pull_request={'number': 1, 'base': end, 'head': end})
-            occasion = Occasion(Happening(event, 'opened', 'branches', branch), SHA, SHA, 'refs/pull/1/merge', branch, branch)
+            happening = Happening(event, 'opened', 'branches', branch)
+            occasion = Occasion(happening, SHA, SHA, 'refs/pull/1/merge', branch, branch)
         if event == 'workflow_dispatch':
             payload.update(inputs=sample(triggers_of(workflow.get('on'))[event].get('inputs')), workflow=self.path)
         return Source(self.repository, occasion, payload, self.texts, self.variables, Server('', Settings()))
@@ -154,14 +156,15 @@ class Checker:
             number, _, place = where.partition(' ')
             text = told.get(where, '')
             advice = profile.advice(int(number) if number.isdecimal() else None, text)
-            yield Finding(event, ' '.join(filter(None, [f'refused {where}: {meaning}' + (f': {text}' if text else '') + '.', advice])),
-                          self.at(place))
+            said = f'refused {where}: {meaning}' + (f': {text}.' if text else '.')
+            yield Finding(event, f'{said} {advice}'.strip(), self.at(place))
 
     def asked(self, command: str, sent: Sent) -> str:
         """What the program of the service says of a workflow."""
         try:
-            done = subprocess.run([self.program, command], input=json.dumps(json.loads(sent.body)['workflow']), capture_output=True,
-                                  text=True, timeout=SECONDS)
+            workflow = json.dumps(json.loads(sent.body)['workflow'])
+            done = subprocess.run([self.program, command], input=workflow, capture_output=True, text=True,
+                                  timeout=SECONDS)
         except (OSError, subprocess.TimeoutExpired) as fault:
             raise CheckError(f'{self.program}: {fault}') from None
         if done.returncode not in (0, 1) or command == 'lint' and done.stderr:
@@ -192,7 +195,8 @@ def sample(forms: Any) -> dict[str, Any]:
 def runner_faults(body: bytes, job: str, leg: str, combination: str, options: Options) -> list[str]:
     """What a runner's plan of a leg says."""
     with tempfile.TemporaryDirectory() as folder:
-        held = {'lease': '1', 'run': '1', 'job': job, 'leg': leg, 'combo': combination, 'claim': '1', 'present': None, 'body': None}
+        held = {'lease': '1', 'run': '1', 'job': job, 'leg': leg, 'combo': combination, 'claim': '1', 'present': None,
+                'body': None}
         here = {**asdict(options), 'work': folder, 'logs': folder}
         try:
             return Plan.of_all(Job({'leg': held, 'body': body.decode(), 'options': here}, []))

@@ -28,7 +28,7 @@ MOST_MEMBERS, LONGEST_PAYLOAD = 10, 65_535  # of a `client_payload`: GitHub's li
 
 @dataclass(frozen=True)
 class Dispatched:
-    """The run that was made, or None and why in `words`; `status` is what REST answers for it. `runs` has all of them."""
+    """The run that was made, or None and why in `words`; `status` is what REST answers. `runs` has all of them."""
 
     run: int | None
     words: str
@@ -107,7 +107,8 @@ class Dispatcher:
             return refused(str(fault), 503)
         if outcome.refused and not outcome.runs:
             return self.answer(outcome)
-        return Dispatched(next(iter(outcome.runs.values()), None), '\n'.join(outcome.lines), 204, tuple(outcome.runs.values()))
+        runs = tuple(outcome.runs.values())
+        return Dispatched(runs[0] if runs else None, '\n'.join(outcome.lines), 204, runs)
 
     def payload(self, repository: Repository, actor: str) -> dict[str, Any]:
         """What the payloads have in common."""

@@ -35,6 +35,8 @@ class Follower:
         self.events: Events = events
         self.hub: Hub = events.hub
         self.again: set[int] = set()  # runs that could not be told of
+        self.states: dict[int, dict[int, str]] = {}  # what was told of each attempt of each run
+        self.base: dict[str, Any] | None = None  # the newest run up to which all were told of
 
     async def follow(self) -> None:
         """Follows without end."""
@@ -56,7 +58,13 @@ class Follower:
 
     async def take_up(self) -> None:
         """At the first start what is there counts as told; later what was missed is told."""
-        base = self.hub.notes.get(0, 0, KIND, BASE)
+        asked = 'select run, attempt, value from notes where kind = ? and name = ?'
+        rows = self.hub.database.read(asked, (KIND, 'state'))
+        for number, attempt, value in rows:
+            if number in self.hub.mirror.runs:
+                self.states.setdefault(number, {})[attempt] = json.loads(value)
+        self.hub.mirror.dropped.append(self.forget)
+        base = self.base = self.hub.notes.get(0, 0, KIND, BASE)
         newest = max(self.hub.mirror.runs, default=0)
         run = self.hub.mirror.runs.get(base['run']) if base and base['run'] else None
         if base is None or base['run'] and (run is None or run.row.delivery != base['delivery']):
@@ -67,7 +75,7 @@ class Follower:
                 if run.row.status != 'completed' or run.row.attempt > 1:
                     self.note(run)
                 if run.row.attempt > 1:
-                    self.hub.notes.set(number, run.row.attempt - 1, KIND, 'state', 'completed')
+                    self.set(number, run.row.attempt - 1, 'completed')
             return
         for number in sorted(self.hub.mirror.runs):
             await self.tell(number)
@@ -75,19 +83,31 @@ class Follower:
     def note_base(self, newest: int) -> None:
         """Notes the newest run that was told of, by which another store is known."""
         run = self.hub.mirror.runs.get(newest)
-        self.hub.notes.set(0, 0, KIND, BASE, {'run': newest, 'delivery': run.row.delivery if run else ''})
+        self.base = {'run': newest, 'delivery': run.row.delivery if run else ''}
+        self.hub.notes.set(0, 0, KIND, BASE, self.base)
 
     def note(self, run: Run) -> None:
         """Notes that the present state of a run was told."""
-        self.hub.notes.set(run.id, run.row.attempt, KIND, 'state', ACTIONS.get(run.row.status, 'requested'))
+        self.set(run.id, run.row.attempt, ACTIONS.get(run.row.status, 'requested'))
+
+    def set(self, run: int, attempt: int, state: str) -> None:
+        """Notes what was told of an attempt."""
+        self.states.setdefault(run, {})[attempt] = state
+        self.hub.notes.set(run, attempt, KIND, 'state', state)
+
+    def forget(self, run: int) -> None:
+        """Forgets a run that is gone, or that another one has taken the place of."""
+        self.states.pop(run, None)
 
     def told(self, run: Run) -> str | None:
         """The state of a run's attempt that was told."""
-        found = self.hub.notes.get(run.id, run.row.attempt, KIND, 'state')
-        base = self.hub.notes.get(0, 0, KIND, BASE) or {'run': 0}
-        if found is None and run.id <= base['run'] and run.row.attempt == 1:
-            return 'completed'
-        return str(found) if found else None
+        found = self.states.get(run.id, {}).get(run.row.attempt)
+        return 'completed' if found is None and run.id <= self.newest and run.row.attempt == 1 else found
+
+    @property
+    def newest(self) -> int:
+        """The newest run up to which all were told of."""
+        return int(self.base['run']) if self.base else 0
 
     async def tell(self, number: int) -> None:
         """Tells of a run, if it is not as it was told."""
@@ -96,9 +116,9 @@ class Follower:
             return
         before = self.hub.mirror.attempt(number, run.row.attempt - 1) if run.row.attempt > 1 else None
         try:
-            for each in (before, run):
-                if each is not None and (each is run or each.row.status == 'completed' and each.row.conclusion is not None):
-                    await self.tell_attempt(each)
+            if before is not None and before.row.conclusion is not None:
+                await self.tell_attempt(before)
+            await self.tell_attempt(run)
         except (Away, OSError) as fault:
             say(f'events: run {number} is told later: {fault}')
             self.again.add(number)
@@ -115,9 +135,9 @@ class Follower:
 
     def move_base(self, number: int) -> None:
         """Notes that a run is the newest that was told of, once all before it were."""
-        base = self.hub.notes.get(0, 0, KIND, BASE) or {'run': 0}
-        if number > base['run'] and all(self.told(self.hub.mirror.runs[each]) for each in range(base['run'] + 1, number)
-                                        if each in self.hub.mirror.runs):
+        runs = self.hub.mirror.runs
+        between = range(self.newest + 1, number)
+        if number > self.newest and all(self.told(runs[each]) for each in between if each in runs):
             self.note_base(number)
 
     async def tell_status(self, run: Run, told: str | None, action: str) -> None:
@@ -178,14 +198,16 @@ class Follower:
 
     def object_of(self, run: Run, action: str) -> dict[str, Any]:
         """A run as the payload of `workflow_run` has it."""
-        row, facts = run.row, run.facts
+        row, facts, is_over = run.row, run.facts, action == 'completed'
         return {
-            'id': row.run, 'name': row.workflow or row.path, 'path': row.path, 'event': row.event, 'run_number': row.number,
-            'run_attempt': row.attempt, 'status': 'completed' if action == 'completed' else row.status,
-            'conclusion': row.conclusion if action == 'completed' else None, 'head_branch': facts.branch or '', 'head_sha': facts.sha,
-            'display_title': facts.run_name or facts.title, 'html_url': f'{self.hub.config.url}/{row.repository}/actions/runs/{row.run}',
+            'id': row.run, 'name': row.workflow or row.path, 'path': row.path, 'event': row.event,
+            'run_number': row.number, 'run_attempt': row.attempt, 'status': 'completed' if is_over else row.status,
+            'conclusion': row.conclusion if is_over else None, 'head_branch': facts.branch or '', 'head_sha': facts.sha,
+            'display_title': facts.run_name or facts.title,
+            'html_url': f'{self.hub.config.url}/{row.repository}/actions/runs/{row.run}',
             'created_at': iso(run.created_at), 'run_started_at': iso(run.started_at), 'updated_at': iso_or_none(run.updated_at),
-            'actor': {'login': facts.actor or ''}, 'triggering_actor': {'login': run.triggering_actor or facts.actor or ''},
+            'actor': {'login': facts.actor or ''},
+            'triggering_actor': {'login': run.triggering_actor or facts.actor or ''},
             'repository': {'full_name': row.repository},
             'head_repository': {'full_name': facts.head_repository or row.repository},
             'pull_requests': [{'number': facts.pull_number}] if facts.pull_number else []}

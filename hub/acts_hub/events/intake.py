@@ -110,7 +110,8 @@ class Events:
 
     async def take_up(self) -> None:
         """Adds to the queues what is in the spool alone."""
-        for name in sorted(set(await asyncio.to_thread(self.spool.waiting)) - self.queues.names() - self.answers.keys()):
+        waiting = set(await asyncio.to_thread(self.spool.waiting))
+        for name in sorted(waiting - self.queues.names() - self.answers.keys()):
             try:
                 repository = Delivery.of(name, await asyncio.to_thread(self.spool.read, name)).repository
             except FileNotFoundError:
@@ -193,10 +194,11 @@ class Events:
             if (delivery.id, refusal.path or None) in known:
                 continue
             event = occasion.happening.event if occasion else delivery.event
-            self.hub.refused.add(now(), repository.name, event, delivery.id, refusal.path or None, occasion.ref if occasion else None,
-                                 occasion.head if occasion else None, refusal.code, refusal.line, refusal.words, refusal.advice)
-            if occasion:
-                await self.statuses.add(refused_status(self.hub.config.url, repository.name, occasion.head, event, refusal))
+            ref, sha = (occasion.ref, occasion.head) if occasion else (None, None)
+            self.hub.refused.add(now(), repository.name, event, delivery.id, refusal.path or None, ref, sha,
+                                 refusal.code, refusal.line, refusal.words, refusal.advice)
+            if sha:
+                await self.statuses.add(refused_status(self.hub.config.url, repository.name, sha, event, refusal))
 
     async def finish(self, name: str, title: str, outcome: Outcome, reasons: list[str]) -> None:
         """Removes a delivery from the spool, or puts it aside, and tells who waits."""
@@ -235,7 +237,8 @@ class Events:
 
     def state(self) -> State:
         """What pages show."""
-        waiting = {name: (len(names), self.queues.why.get(name, '')) for name, names in self.queues.queues.items() if names}
+        why = self.queues.why
+        waiting = {name: (len(names), why.get(name, '')) for name, names in self.queues.queues.items() if names}
         try:
             aside = len(self.spool.aside())
         except OSError:

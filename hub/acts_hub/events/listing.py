@@ -31,7 +31,8 @@ def listed(texts: Mapping[str, str]) -> tuple[Listed, ...]:
         try:
             workflow = reading.read(text)
             name = workflow.get('name')
-            made.append(Listed(path, text_of(name) if isinstance(name, (str, int)) else '', text, triggers_of(workflow.get('on'))))
+            shown = text_of(name) if isinstance(name, (str, int)) else ''
+            made.append(Listed(path, shown, text, triggers_of(workflow.get('on'))))
         except Fault:
             made.append(Listed(path, '', text, {}))
     return tuple(made)

@@ -18,7 +18,8 @@ LONGEST_FILE = 1 << 20  # bytes of a workflow
 MOST_WORKFLOWS = 500
 LONGEST_PATH = 255
 COMMIT = re.compile('[0-9a-f]{40}|[0-9a-f]{64}')
-REF = re.compile(r'refs/(?:heads|tags|pull)/(?![-/.])(?!.*(?:\.\.|//|@\{|/\.|\.lock(?:/|$)))[^\x00-\x20\x7f~^:?*\[\\]{1,240}(?<![/.])')
+REF = re.compile(r'refs/(?:heads|tags|pull)/(?![-/.])(?!.*(?:\.\.|//|@\{|/\.|\.lock(?:/|$)))'
+                 r'[^\x00-\x20\x7f~^:?*\[\\]{1,240}(?<![/.])')
 ENV = {'GIT_TERMINAL_PROMPT': '0', 'GIT_OPTIONAL_LOCKS': '0', 'GIT_LITERAL_PATHSPECS': '1', 'LC_ALL': 'C'}
 
 
@@ -52,7 +53,7 @@ class Entry:
 
 
 async def ended(process: asyncio.subprocess.Process) -> None:
-    """Ends a command with all that it has started: by TERM, so that git removes its locks, and after five seconds by KILL."""
+    """Ends a command with all that it has started: by TERM, so that git removes its locks, then by KILL."""
     for number in signal.SIGTERM, signal.SIGKILL:
         with contextlib.suppress(ProcessLookupError):
             os.killpg(process.pid, number)
@@ -62,7 +63,7 @@ async def ended(process: asyncio.subprocess.Process) -> None:
 
 
 class Mirror:
-    """A bare clone of a repository. `is_fetched` says whether its last fetch succeeded, or there is nothing to fetch from."""
+    """A bare clone of a repository. `is_fetched` is false if its last fetch failed."""
 
     def __init__(self, folder: pathlib.Path) -> None:
         self.folder, self.is_fetched = folder, True
@@ -96,7 +97,8 @@ class Mirror:
             if process.returncode is None:
                 await ended(process)
         if process.returncode:
-            raise GitFault(' '.join(errors.decode(errors='replace').split())[:500] or f'git {words[0]}: {process.returncode}')
+            said = ' '.join(errors.decode(errors='replace').split())[:500]
+            raise GitFault(said or f'git {words[0]}: {process.returncode}')
         return output
 
     async def ask(self, *words: str) -> str | None:
@@ -147,7 +149,8 @@ class Mirror:
         for line in listed.split('\0'):
             facts, _, path = line.partition('\t')
             words = facts.split()
-            if len(words) == 4 and path.endswith(('.yml', '.yaml')) and len(path) <= LONGEST_PATH and words[1] != 'tree':
+            is_file = len(words) == 4 and words[1] != 'tree'
+            if is_file and path.endswith(('.yml', '.yaml')) and len(path) <= LONGEST_PATH:
                 made.append(Entry(path, words[0], int(words[3]) if words[3].isdecimal() else 0, words[2]))
         return made[:MOST_WORKFLOWS]
 

@@ -22,7 +22,7 @@ class Malformed(Exception):
 
 @dataclass(frozen=True)
 class Occasion:
-    """`commit` is the one whose workflows are read, `head` the newest of the event; `status` the one that gets statuses."""
+    """`commit` is the one whose workflows are read, `head` the newest of the event, which gets statuses."""
 
     happening: Happening
     commit: str
@@ -103,8 +103,8 @@ async def pushed(payload: Tree, mirror: Mirror) -> Occasion:
 
 
 async def span_of(payload: Tree, commit: str, mirror: Mirror) -> tuple[str, ...] | None:
-    """For an existing branch what it was before, for a new one the parent of its first new commit. None if there is nothing
-    to compare with."""
+    """For an existing branch what it was before, for a new one the parent of its first new commit. None if there is
+    nothing to compare with."""
     before, commits = payload.get('before'), payload.get('commits')
     if not isinstance(before, str) or not COMMIT.fullmatch(before):
         return None

@@ -1,4 +1,4 @@
-"""Requests to others, each sent until it is answered, in order. They wait in a folder, also over a crash of the machine."""
+"""Requests to others, each sent until it is answered, in order. They wait in a folder, also over a crash."""
 from __future__ import annotations
 
 import asyncio

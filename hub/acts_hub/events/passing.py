@@ -34,7 +34,7 @@ def passed_on(text: str, job: Tree, place: str) -> Unknown:
 
 def inputs_of_call(job: Tree, forms: Mapping[str, Tree], known: Folding, place: str,
                    rows: Sequence[Row | None] = (None,)) -> tuple[list[Inputs], Inputs]:
-    """The inputs of a call for each combination, and those of them that are expressions in the called workflow's jobs."""
+    """The inputs of a call for each combination, and those of them that are expressions in the called jobs."""
     texts = job.get('with') or {}
     passed: Inputs = {name: passed_on(text, job, f'{place}.with.{name}') for name, text in texts.items()
                       if isinstance(known.value(text), Unknown)}
@@ -70,4 +70,5 @@ def check_outputs(jobs: Mapping[str, Tree], inputs: Mapping[str, Value], place: 
         for member in 'runs-on', 'concurrency', 'continue-on-error', 'strategy':
             for name, text in outputs:
                 if text in json.dumps(job.get(member)):
-                    raise Fault(f'{text} is known to runners alone, and {id} has it in {member}', f'{place}.with.{name}')
+                    words = f'{text} is known to runners alone, and {id} has it in {member}'
+                    raise Fault(words, f'{place}.with.{name}')

@@ -71,7 +71,7 @@ class Queues:
                     say(f'events: {name} is tried again: {fault}')
                 self.why[repository] = str(fault)
                 return True
-            except Exception as fault:  # a fault of this program, or of the disk: nothing is lost, and it is tried again
+            except Exception as fault:  # of this program, or of the disk: nothing is lost, and it is tried again
                 traceback.print_exc()
                 self.why[repository] = repr(fault)
                 return True

@@ -44,7 +44,8 @@ def line_in(texts: Mapping[str, str], path: str, place: str) -> int | None:
 def of_fault(fault: Fault, path: str, texts: Mapping[str, str]) -> Refusal:
     """Of what the hub does not send."""
     line = fault.line or (line_in(texts, path, fault.place) if fault.place else None)
-    return Refusal(path, f'not sent: {str(fault)[:LONGEST]}', fault.number, line, profile.advice(fault.number, fault.words))
+    advice = profile.advice(fault.number, fault.words)
+    return Refusal(path, f'not sent: {str(fault)[:LONGEST]}', fault.number, line, advice)
 
 
 def of_reply(words: str, code: int | None, notes: Iterable[Note], path: str, texts: Mapping[str, str]) -> Refusal:

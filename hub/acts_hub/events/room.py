@@ -40,8 +40,8 @@ class Room:
         """Why events wait; None if they do not."""
         if self.full <= self.most:
             return None
-        return (f'the file of the service is {self.full:.0%} full: over {self.most:.0%} new events wait, so that runs that go on '
-                'keep their room; forget old runs, or make a store with larger areas')
+        return (f'the file of the service is {self.full:.0%} full: over {self.most:.0%} new events wait, so that runs '
+                'that go on keep their room; forget old runs, or make a store with larger areas')
 
     async def held(self) -> str | None:
         """Why an event waits now; None if it does not."""

@@ -122,7 +122,9 @@ class Schedules:
     def say_missed(self, repository: Repository, entry: Entry, due: Due) -> None:
         """Says which times were missed."""
         at = iso(60_000 * (due.last_missed or 0))
-        words = f'{due.missed} {"time" if due.missed == 1 else "times"} of {entry.text} passed while the hub was away, the last at {at}'
+        times = 'time' if due.missed == 1 else 'times'
+        words = f'{due.missed} {times} of {entry.text} passed while the hub was away, the last at {at}'
         say(f'events: {repository.name} {entry.path}: {words}')
-        self.events.hub.refused.add(now(), repository.name, 'schedule', f'schedule-{due.last_missed}', entry.path, None, None,
-                                    None, None, words, 'Start the workflow by hand, if it has workflow_dispatch.')
+        advice = 'Start the workflow by hand, if it has workflow_dispatch.'
+        self.events.hub.refused.add(now(), repository.name, 'schedule', f'schedule-{due.last_missed}', entry.path, None,
+                                    None, None, None, words, advice)

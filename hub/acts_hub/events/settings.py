@@ -142,7 +142,8 @@ def texts(value: Any) -> tuple[str, ...]:
 Readers = Mapping[str, Callable[[Any], Any]]
 SHARED: Readers = {'forks': flag, 'pull_request_target': flag, 'environments': ways}
 READERS: Readers = {
-    'folder': path, 'vars': path, 'server_url': address, 'api_url': address, 'wait': seconds, 'pause': seconds, 'keep': seconds,
+    'folder': path, 'vars': path, 'server_url': address, 'api_url': address,
+    'wait': seconds, 'pause': seconds, 'keep': seconds,
     'fetch_limit': seconds, 'full_limit': seconds, 'aside_days': seconds, 'queue_timeout': seconds, 'schedules': flag,
     'held_over': share, 'statuses': address, 'token_file': path, 'post': address, 'post_secret_file': path,
     'notice_pause': seconds}

@@ -27,7 +27,7 @@ def age(name: str) -> float:
 
 
 class Spool:
-    """A folder. A delivery is NAME while it waits, and NAME.aside once it is put aside, with the reasons in NAME.why."""
+    """A folder. A delivery is NAME while it waits, and NAME.aside once it is put aside, with reasons in NAME.why."""
 
     def __init__(self, folder: pathlib.Path) -> None:
         self.folder = folder

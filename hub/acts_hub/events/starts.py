@@ -43,21 +43,26 @@ RULES: Mapping[str, Rule] = {
     'repository_dispatch': Rule('default'),
     'merge_group': Rule('group', ('checks_requested',)),
 }
-BY_WEBHOOK = frozenset(RULES) - {'workflow_dispatch', 'schedule', 'workflow_run', 'repository_dispatch', 'pull_request_target'}
-OF_A_PULL = frozenset('assigned auto_merge_disabled auto_merge_enabled closed converted_to_draft demilestoned dequeued edited enqueued '
-                      'labeled locked milestoned opened ready_for_review reopened review_request_removed review_requested '
-                      'synchronize unassigned unlabeled unlocked'.split())
+BY_WEBHOOK = frozenset(RULES) - {
+    'workflow_dispatch', 'schedule', 'workflow_run', 'repository_dispatch', 'pull_request_target'}
+OF_A_PULL = frozenset(
+    'assigned auto_merge_disabled auto_merge_enabled closed converted_to_draft demilestoned dequeued edited enqueued '
+    'labeled locked milestoned opened ready_for_review reopened review_request_removed review_requested synchronize unassigned '
+    'unlabeled unlocked'.split())
 TYPES: Mapping[str, frozenset[str]] = {  # those that GitHub has, of the events whose types are few
-    'pull_request': OF_A_PULL, 'pull_request_target': OF_A_PULL, 'issue_comment': frozenset(('created', 'edited', 'deleted')),
+    'pull_request': OF_A_PULL, 'pull_request_target': OF_A_PULL,
+    'issue_comment': frozenset(('created', 'edited', 'deleted')),
     'pull_request_review': frozenset(('submitted', 'edited', 'dismissed')),
     'pull_request_review_comment': frozenset(('created', 'edited', 'deleted')),
     'release': frozenset('published unpublished created edited deleted prereleased released'.split()),
-    'workflow_run': frozenset(('completed', 'requested', 'in_progress')), 'merge_group': frozenset(('checks_requested',)),
+    'workflow_run': frozenset(('completed', 'requested', 'in_progress')),
+    'merge_group': frozenset(('checks_requested',)),
     'watch': frozenset(('started',)), 'label': frozenset(('created', 'edited', 'deleted')),
     'milestone': frozenset('created closed opened edited deleted'.split())}
 NOT_TAKEN = {
     'workflow_call': 'other workflows call it',
     'workflow_dispatch': 'start it from the page of the workflow, by `gh workflow run`, or over REST',
+    'repository_dispatch': 'post it over REST, with a token of the hub',
 }
 
 

@@ -57,8 +57,8 @@ def refused_status(url: str, repository: str, sha: str, event: str, refusal: Ref
     """The status of a commit whose workflow made no run."""
     where = f'line {refusal.line}: ' if refusal.line else ''
     return {'repository': repository, 'sha': sha, 'status': {
-        'state': 'error', 'context': context_of('', refusal.path, event), 'description': (where + refusal.words)[:LONGEST],
-        'target_url': page_of(url, repository, 'refused')}}
+        'state': 'error', 'context': context_of('', refusal.path, event),
+        'description': (where + refusal.words)[:LONGEST], 'target_url': page_of(url, repository, 'refused')}}
 
 
 class Statuses:
@@ -102,7 +102,8 @@ class Statuses:
             raise Later('the token can not be read')
         url = f'{self.settings.statuses}/repos/{urllib.parse.quote(kept["repository"])}/statuses/{kept["sha"]}'
         await post(self.session, url, json.dumps(kept['status']).encode(), {
-            'Authorization': f'Bearer {token}', 'Accept': 'application/vnd.github+json', 'X-GitHub-Api-Version': '2022-11-28'})
+            'Authorization': f'Bearer {token}', 'Accept': 'application/vnd.github+json',
+            'X-GitHub-Api-Version': '2022-11-28'})
 
     async def send_notice(self, name: str, kept: Any) -> None:
         """Posts one notice. The signature is the HMAC with SHA-256 of the body under the secret."""

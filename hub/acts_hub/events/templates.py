@@ -15,7 +15,7 @@ from . import calls
 
 SECONDS = 10  # for the expressions of one workflow
 LONGEST = 1 << 20  # characters that its expressions make
-APPROVED = 'approved-${{ github.run_id }}'  # the label that the gateway gives to claims once someone has approved the run
+APPROVED = 'approved-${{ github.run_id }}'  # the label that claims have once someone has approved the run
 FOLDED = 'runs-on', 'concurrency', 'continue-on-error', 'strategy'
 Tree = dict[str, Any]
 Environments = Mapping[str, bool]  # names in small letters, and whether a job waits there for an approval

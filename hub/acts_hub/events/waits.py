@@ -33,6 +33,11 @@ def unclaimable_labels(labels: Iterable[str], repository: str, tokens: Iterable[
     return alone or tuple(wanted) or ('any label',)
 
 
+def words_of(missing: tuple[str, ...]) -> str:
+    """Why nobody can take a leg."""
+    return f'no runner has {", ".join(label[:100] for label in missing)}'
+
+
 def unclaimable_of(whole: Whole, tokens: Iterable[Token]) -> str | None:
     """Why a leg of a run can't be claimed by any runner; None if each can. Runs that have ended wait for none."""
     if whole.row.status == 'completed':
@@ -40,8 +45,9 @@ def unclaimable_of(whole: Whole, tokens: Iterable[Token]) -> str | None:
     listed = list(tokens)
     for job in whole.jobs:
         for leg in job.legs:
-            if leg.state in ('ready', 'waiting') and (missing := unclaimable_labels(leg.labels, whole.row.repository, listed)):
-                return f'no runner has {", ".join(label[:100] for label in missing)}'
+            if leg.state in ('ready', 'waiting'):
+                if missing := unclaimable_labels(leg.labels, whole.row.repository, listed):
+                    return words_of(missing)
     return None
 
 
@@ -76,7 +82,7 @@ class Waits:
             present[key] = self.first.get(key) or self.since(key)
             missing = unclaimable_labels(ready.labels, run.row.repository, tokens)
             if missing:
-                await self.say(ready.run, run.row.attempt, f'no runner has {", ".join(label[:100] for label in missing)}')
+                await self.say(ready.run, run.row.attempt, words_of(missing))
             await self.check_time(ready, present[key])
         self.first = present
         runs = {(key[0], key[3]) for key in present}
