@@ -9,11 +9,12 @@ HUB_RUN := cd $(HUB_ROOT)/hub && PYTHONPATH=$(HUB_ROOT)/hub ACTS=$(HUB_ACTS)
 
 # Starts a service, a hub and a runner in the folder demo/, runs an example to its end, and goes on until Ctrl-C. DEMO='--listen HOST:PORT' and the like are options.
 demo: $(HUB_ACTS)
+	@mkdir -p $(HUB_ROOT)/demo && echo '*' > $(HUB_ROOT)/demo/.gitignore
 	@$(HUB_ROOT)/hub/packages --run --check || { echo 'demo: as root, make hub-packages' >&2; exit 1; }
 	@$(HUB_RUN) $(HUB_PYTHON) -m acts_hub up $(HUB_ROOT)/demo/hub --acts $(HUB_ACTS) $(DEMO)
 
 $(HUB_ROOT)/demo/acts:
-	@mkdir -p $(HUB_ROOT)/demo
+	@mkdir -p $(HUB_ROOT)/demo && echo '*' > $(HUB_ROOT)/demo/.gitignore
 	@echo 'demo: examples/trial makes the program of the service, in a few minutes'
 	@$(HUB_ROOT)/examples/trial $@
 

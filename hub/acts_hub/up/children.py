@@ -13,7 +13,7 @@ from dataclasses import dataclass, field
 from ..doors import namespace
 
 QUICK = 10.0
-"""Seconds: a process that ended sooner has failed at its start."""
+"""Seconds: a process that ended sooner, and was not killed, has failed at its start."""
 MOST_QUICK = 5
 """So many failures one after the other end the whole."""
 LOG_BYTES = 8 << 20
@@ -46,7 +46,7 @@ class Child:
             status = await self._live()
             if self.is_stopping:
                 return
-            quick = quick + 1 if time.monotonic() < began + QUICK else 0
+            quick = quick + 1 if status >= 0 and time.monotonic() < began + QUICK else 0
             if quick == MOST_QUICK:
                 raise Failed(f'{self.name} does not stay; it said: {self.last_words()}')
             say(f'{self.name} has ended ({_status(status)}); it is started again')
