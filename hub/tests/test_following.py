@@ -104,7 +104,9 @@ def test_lines_of_a_later_service_say_all(tmp_path: pathlib.Path) -> None:
             async with mirrored(stand, tmp_path) as mirror:
                 row = stand.add(1, status='queued', sha='ab' * 20, ref_name='main', actor='mona', title='A title')
                 stand.say({'entry': 1, 'command': {**CREATED, 'delivery': 'd1'}, 'reply': 'created 1', 'at': 1000},
-                          {'after': 1, **row, 'at': 1000})
+                          {'after': 1, **row, 'at': 1000},
+                          *({'after': 1, 'run': 1, 'attempt': 1, 'job': job, 'leg': 0, 'state': 'ready', 'lease': None, 'runner': None, 'at': 1000}
+                            for job in ('build', 'deploy')))
                 await until(lambda: 1 in mirror.runs)
                 run = mirror.runs[1]
                 assert (run.created_at, run.created_source, run.row.sha, run.row.title) == (1000, 'seen', 'ab' * 20, 'A title')
@@ -118,7 +120,8 @@ def test_lines_of_a_later_service_say_all(tmp_path: pathlib.Path) -> None:
                           {**leg, 'job': 'deploy', 'state': 'cancelled', 'lease': None, 'runner': None, 'at': 3000},
                           {'after': 3, 'run': 1, 'attempt': 1, 'status': 'completed', 'conclusion': 'failure', 'at': 3000},
                           {'entry': 4, 'command': {'name': 'rerun', 'run': 1, 'attempt': 2}, 'reply': 'again 1 2', 'at': 4000},
-                          {'after': 4, 'run': 1, 'attempt': 2, 'status': 'queued', 'conclusion': None, 'at': 4000})
+                          {'after': 4, **row, 'attempt': 2, 'status': 'queued', 'conclusion': None, 'at': 4000},
+                          {**leg, 'after': 4, 'attempt': 2, 'state': 'ready', 'lease': None, 'runner': None, 'at': 4000})
                 stand.rows[1].update(attempt=2, status='queued', conclusion=None)
                 stand.wholes[1] = {'jobs': [{'id': name, 'state': 'open', 'needs': [], 'max_parallel': None, 'legs': [
                     {'leg': 0, 'combination': {}, 'state': 'ready', 'lease': None, 'runner': None, 'labels': ['linux'], 'group': None, 'waits_for': None}]}
@@ -131,6 +134,10 @@ def test_lines_of_a_later_service_say_all(tmp_path: pathlib.Path) -> None:
                     ('build', 'failure', 7, 'r1', 2000, 3000), ('deploy', 'cancelled', None, None, None, 3000)]
                 was = mirror.attempt(1, 1)
                 assert was is not None and (was.started_at, was.completed_at) == (1000, 3000)
+                await until(lambda: mirror.attempts.notes[1, 2].started_at == 4000)
+                again = await mirror.whole(1)
+                assert again is not None and [(job.id, leg.state, leg.started_at, leg.ended_at) for job in again.jobs for leg in job.legs] == [
+                    ('build', 'ready', None, None), ('deploy', 'ready', None, None)]
     play(test())
 
 

@@ -209,6 +209,10 @@ class Changes:
         self.has_leg_lines = True
         if line.run not in self.mirror.runs:
             return
+        self._touch(line.run, at)
+        is_known = (line.job, line.leg) in self.mirror.attempts.legs(line.run, line.attempt)
+        if not is_known and line.lease is None and line.state not in ENDS:
+            return                                          # it waits: there is nothing to note
         note = self._batch.leg(line.run, line.attempt, line.job, line.leg)
         if line.lease is not None:
             if line.lease != note.lease:
@@ -220,7 +224,6 @@ class Changes:
         if line.state in ENDS and note.ended_at is None:
             note.ended_at = at
         note.state = line.state if line.state in ENDS else None
-        self._touch(line.run, at)
 
     def _touch(self, run: int, at: int | None, is_end: bool = False) -> None:
         """A run has changed: it is looked at soon, unless lines of its legs say all."""
