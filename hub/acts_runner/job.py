@@ -11,6 +11,7 @@ import shutil
 import stat
 import sys
 import time
+from collections import Counter
 from dataclasses import dataclass, field
 from typing import Any, Iterable, Mapping, Sequence
 
@@ -103,7 +104,7 @@ class Job:
             self.github['token'] = self.secrets['GITHUB_TOKEN']
         self.frame, self.env, self.path = Frame(self.body.get('inputs') or {}), dict[str, str](), list[str]()
         self.posts: list[Step] = []
-        self.count, self.number = 0, 1
+        self.count, self.number, self.called = 0, 1, Counter[str]()
         defaults = ((self.workflow.get('defaults') or {}).get('run') or {}, (self.job.get('defaults') or {}).get('run') or {})
         self.defaults: dict[str, Any] = {**defaults[0], **defaults[1]}
         self.shell = self.defaults.get('shell')
@@ -115,7 +116,7 @@ class Job:
         """The context `github`: of the body, of the hub, and of this runner."""
         body = self.body.get('github') or {}
         return {**(self.facts.get('github_defaults') or {}), **body, 'repository': self.body['repo'],
-                'workflow': self.workflow.get('name') or self.body['path'], 'run_id': self.leg.run, 'job': self.name,
+                'workflow': self.workflow.get('name') or self.body['path'], 'run_id': self.leg.run, 'job': self.name, 'action': '__run',
                 'workspace': self.workspace, 'event_path': os.path.join(self.temp, 'event.json'),
                 **(self.facts.get('github') or {})}
 
@@ -311,9 +312,18 @@ class Job:
     def run_numbered(self, step: Step, frame: Frame) -> None:
         """Runs a step of the job, between its marks."""
         self.number += 1
+        self.github['action'] = self.action_of(step)
         self.log.mark(step=self.number, name=self.title(step, frame), begins=True)
         result = self.run_step(step, frame)
         self.log.mark(step=self.number, ends=True, **result)
+
+    def action_of(self, step: Step) -> str:
+        """`github.action`: the id of a step, else `__run` or the name of its action, with a number from the second on."""
+        if step.get('id'):
+            return str(step['id'])
+        name = '__' + re.sub('[^A-Za-z0-9-]+', '_', str(step['uses']).partition('@')[0]).strip('_') if step.get('uses') else '__run'
+        self.called[name] += 1
+        return name if self.called[name] == 1 else f'{name}_{self.called[name]}'
 
     def title(self, step: Step, frame: Frame) -> str:
         """The name of a step, as GitHub shows it."""

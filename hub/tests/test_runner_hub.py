@@ -339,6 +339,19 @@ def test_caches(site: Site) -> None:
     assert site.noted() == ['[] ', '[true] of one', '[false] of one', '[false] of two', '[false] of two', '[true] of three'], site.noted()
 
 
+def test_contexts_of_the_hub(site: Site) -> None:
+    """What GitHub documents, as the hub sets it."""
+    run = site.admit({'run': 'echo "${{ github.server_url }} ${{ github.api_url }} ${{ github.graphql_url }} ${{ github.run_number }} ${{ github.run_attempt }}" >> "$NOTES"'},
+                     {'run': 'echo "${{ strategy.job-total }} ${{ strategy.max-parallel }} ${{ github.workflow_ref }} ${{ github.repository_owner }}" >> "$NOTES"'},
+                     {'run': 'echo "$GITHUB_SERVER_URL $GITHUB_API_URL $GITHUB_REPOSITORY_OWNER $GITHUB_ACTION ${{ github.action }}" >> "$NOTES"'},
+                     {'run': 'echo "$GITHUB_ACTION" >> "$NOTES"', 'id': 'named'}, {'run': '[ -n "${{ github.repository_id }}" ] && echo "$RUNNER_ENVIRONMENT" >> "$NOTES"'},
+                     strategy={'matrix': {'n': [1]}})
+    site.run()
+    url, number = site.hub.url, site.service.run(run)['number']
+    assert site.noted() == [f'{url} {url}/api/v3 {url}/api/graphql {number} 1', '1 1 octo/hello/.github/workflows/ci.yml@refs/heads/main octo',
+                            f'{url} {url}/api/v3 octo __run_3 __run_3', 'named', 'self-hosted'], site.said(run)
+
+
 # Rights.
 
 
