@@ -227,12 +227,12 @@ def test_a_run_with_many_legs_is_not_read_at_each_of_its_changes(tmp_path: pathl
             stand.wholes[1] = {'jobs': [{'id': 'build', 'state': 'open', 'needs': [], 'max_parallel': None, 'legs': [{'leg': number, **leg} for number in range(600)]}]}
             async with mirrored(stand, tmp_path) as mirror:
                 await until(lambda: 1 in mirror.snapshots)
-                before = stand.asked['/runs/']
+                before, began = stand.asked['/runs/'], time.monotonic()
                 for number in range(40):
                     stand.say({'entry': number, 'command': {'name': 'claim', 'runner': f'r{number}', 'number': 1, 'labels': ['linux']},
                                'reply': f'lease {number + 1} 1 build {number} {{}}', 'at': 1000 + number})
                     await until(lambda: len(mirror.attempts.legs(1, 1)) > number)
-                assert stand.asked['/runs/'] - before <= 1
+                assert stand.asked['/runs/'] - before <= 1 + (time.monotonic() - began) / 1.2      # 500 legs a second
                 stand.rows[1].update(status='completed', conclusion='failure')
                 stand.say({'after': 41, 'run': 1, 'attempt': 1, 'status': 'completed', 'conclusion': 'failure', 'at': 9000})
                 began = time.monotonic()
