@@ -42,6 +42,7 @@ def test_a_run_says_which_one_took_its_place(stage: Stage) -> None:
     token = stage.hub.token('reader', 'read')
     runs = [stage.admit(f'Deploy {number}', jobs=NOBODY, workflow=GROUP, name='Deploy') for number in (1, 2, 3)]
     stage.seen(runs[1], 'completed')
+    stage.seen(runs[2])
     # GitHub: a pending run of a concurrency group is cancelled once another one waits for it
     text = shown(stage, stage.page(runs[1]), token)
     assert 'Cancelled' in text

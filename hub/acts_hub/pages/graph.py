@@ -117,7 +117,7 @@ def drawing(nodes: Sequence[Node]) -> Drawing:
     for across, column in enumerate(columns):
         x, y = MARGIN + across * (wide + gap), MARGIN
         for node in column:
-            legs = _chosen(node.legs) if node.is_matrix else ()
+            legs = chosen(node.legs, MOST_LEGS) if node.is_matrix else ()
             more = len(node.legs) - len(legs) if node.is_matrix else 0
             places[node.id] = Place(node, x, y, wide, _height(node, len(legs), more), legs, more)
             y += places[node.id].height + GAP_DOWN
@@ -128,12 +128,12 @@ def drawing(nodes: Sequence[Node]) -> Drawing:
     return Drawing(width, bottom + MARGIN, len(columns) > LONG, tuple(places.values()), edges)
 
 
-def _chosen(legs: Sequence[Leg]) -> tuple[Leg, ...]:
-    """The legs that are drawn, in their order: those that failed or run come first where not all have room."""
-    if len(legs) <= MOST_LEGS:
+def chosen(legs: Sequence[Leg], most: int) -> tuple[Leg, ...]:
+    """So many legs, in their order: those that failed or run are taken first where not all have room."""
+    if len(legs) <= most:
         return tuple(legs)
     weight = {'failure': 0, 'stopping': 1, 'running': 1, 'cancelled': 2}
-    best = sorted(range(len(legs)), key=lambda at: (weight.get(legs[at].state, 3), at))[:MOST_LEGS]
+    best = sorted(range(len(legs)), key=lambda at: (weight.get(legs[at].state, 3), at))[:most]
     return tuple(legs[at] for at in sorted(best))
 
 

@@ -20,7 +20,7 @@ from .lines import LogFile
 from .live import BEAT, Stream, stream_of
 from .site import HEADERS, Site, number_of
 from .waiting import Why
-from .whole import LegRow, Shown, awaited_jobs, buttons_of, crumbs_of, leg_of, nodes_of, shown
+from .whole import LegRow, Shown, awaited_jobs, buttons_of, crumbs_of, leg_of, nodes_of, shown, side_of
 
 PAUSE = 0.15  # seconds between two looks at a log that grows
 GRACE = 1.5  # seconds in which the last lines come after the end of the leg
@@ -132,7 +132,8 @@ async def log_page(site: Site, request: web.Request) -> web.StreamResponse:
     return site.page(
         request, 'log.html', title=f'{row.name} · {head.title}', active='repositories',
         crumbs=[*crumbs_of(found), (row.name, '')], run=head,
-        can=await buttons_of(site, request, found), approvals=awaited_jobs(site, found), nodes=nodes_of(found, now()),
+        can=await buttons_of(site, request, found), approvals=awaited_jobs(site, found),
+        side=side_of(nodes_of(found, now())),
         job_link=base, job=job, steps=read.steps, q=q, hits=read.hits,
         hits_left=read.has_more_hits, no_log=_no_log(row), is_log=not is_over,
         changes='' if not is_over and file else f'/-/changes?run={head.id}')

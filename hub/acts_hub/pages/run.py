@@ -12,7 +12,7 @@ from .log import file_of, steps_in
 from .notes import annotations_of, summaries_of
 from .site import HEADERS, Site, number_of
 from .waiting import Why, displaced_by, of_wait
-from .whole import LegRow, Shown, awaited_jobs, buttons_of, crumbs_of, nodes_of, shown
+from .whole import LegRow, Shown, awaited_jobs, buttons_of, crumbs_of, nodes_of, shown, side_of
 
 MOST_REASONS, MOST_WAITS, MOST_LEGS = 5, 10, 300
 PIECE = 1 << 18
@@ -96,6 +96,7 @@ async def run_page(site: Site, request: web.Request) -> web.StreamResponse:
         request, 'run.html', title=f'{found.head.title} #{found.head.number} · {found.repository}',
         active='repositories', crumbs=crumbs_of(found),
         run=found.head, can=await buttons_of(site, request, found), approvals=awaited_jobs(site, found), nodes=nodes,
+        side=side_of(nodes),
         job_link='', reasons=reasons,
         reasons_left=max(0, len(failed) - MOST_REASONS), waits=await waits_of(site, found),
         displaced=displaced(site, found),

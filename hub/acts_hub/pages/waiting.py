@@ -40,6 +40,7 @@ class Facts:
     runners: Sequence[Runner] = ()
     missing: Callable[[Sequence[str], str], tuple[str, ...]] = lambda labels, repository: tuple(labels)
     is_approved: bool = False
+    found: dict[tuple[tuple[str, ...], str], Why] = field(default_factory=dict)  # by labels: many legs ask for the same
 
 
 def is_there(runner: Runner) -> bool:
@@ -80,8 +81,15 @@ def of_runner(labels: Sequence[str], repository: str, facts: Facts) -> Why:
                    else f'waits for a runner with {named}:')
 
 
-def able(labels: Sequence[str], repository: str, facts: Facts) -> Why:
+def able(labels: tuple[str, ...], repository: str, facts: Facts) -> Why:
     """Which runners could take a leg with these labels."""
+    known = facts.found.get((labels, repository))
+    if known is None:
+        known = facts.found[labels, repository] = _able(labels, repository, facts)
+    return known
+
+
+def _able(labels: tuple[str, ...], repository: str, facts: Facts) -> Why:
     fitting = [runner for runner in facts.runners if has_labels(runner, labels)]
     link = f'/runners?{urlencode({"q": labels[0]})}' if labels else '/runners'
     there = [runner for runner in fitting if is_there(runner)]

@@ -18,6 +18,8 @@ from .names import (is_matrix, job_name, leg_link, leg_name, repository_link, ru
 from .site import Site, number_of
 from .waiting import Facts, Why, of_blocked, of_wait, own_labels
 
+MOST_BESIDE = 400  # legs that are listed beside a run
+
 
 @dataclass(frozen=True)
 class RunHead:
@@ -70,6 +72,15 @@ class LegRow:
     begun: int | None
     ended: int | None
     why: Why | None
+
+
+@dataclass(frozen=True)
+class SideJob:
+    """A job in the list beside a run: the legs that are listed, and how many are not."""
+
+    node: graph.Node
+    legs: tuple[graph.Leg, ...]
+    more: int
 
 
 @dataclass(frozen=True)
@@ -182,6 +193,13 @@ def nodes_of(found: Shown, now: int) -> tuple[graph.Node, ...]:
         legs = (*known.legs, drawn) if known else (drawn,)
         nodes[job.id] = graph.Node(job.id, job_name(job), states.of_job(job), job.needs, legs, is_matrix(job))
     return tuple(nodes.values())
+
+
+def side_of(nodes: Sequence[graph.Node]) -> list[SideJob]:
+    """The jobs of a run for the list beside it, of each as many legs as there is room for."""
+    most = max(graph.MOST_LEGS, MOST_BESIDE // max(1, len(nodes)))
+    return [SideJob(node, legs, len(node.legs) - len(legs)) for node in nodes
+            for legs in (graph.chosen(node.legs, most),)]
 
 
 def leg_of(found: Shown, number: JobNumber) -> LegRow:
