@@ -351,7 +351,7 @@ def test_tokens_by_command(hub: HubProcess) -> None:
     secret = made.stdout.strip()
     assert made.returncode == 0 and re.fullmatch(r'acts_[A-Za-z0-9_-]{43}', secret)
     assert hub.get('/metrics', secret).status == 403                             # it is known: else 401
-    listed = hub.command('token', *config, 'list').stdout
+    listed = hub.command('token', 'list', *config).stdout
     assert re.search(r'^1 mona read octo/\* valid \S+Z$', listed, re.M) and secret not in listed
     refused = hub.command('token', *config, 'create', 'bad name', 'read')
     assert refused.returncode == 1 and 'no name' in refused.stderr

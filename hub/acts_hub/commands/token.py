@@ -30,6 +30,8 @@ def add(parsers: Any) -> None:
     acts.add_parser('list', help='list the tokens, without their secrets')
     revoke = acts.add_parser('revoke', help='revoke a token at once')
     revoke.add_argument('which', help='its id, or a name for all of this name')
+    for act in acts.choices.values():                       # the option may stand before the act, or behind it
+        act.add_argument('--config', type=pathlib.Path, default=argparse.SUPPRESS, metavar='FILE', help=argparse.SUPPRESS)
     parser.set_defaults(run=run)
 
 

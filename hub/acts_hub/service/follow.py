@@ -19,7 +19,7 @@ from .models import Change, Row
 if TYPE_CHECKING:
     from .mirror import Mirror
 
-LIVE_SECONDS = 2.0
+LIVE_SECONDS = 5.0
 FULL_PAGE = 1000
 VERIFIED = 1000
 LOOKED_AT = 2000
@@ -92,12 +92,13 @@ class Follower:
         mirror.moved(set(mirror.runs))
         heard = time.monotonic()
         while True:
-            live = time.monotonic() - heard < LIVE_SECONDS
+            is_live = time.monotonic() - heard < LIVE_SECONDS   # else what comes may have happened long ago
             assert self._cursor is not None
             lines, cursor = await view.changes(self._cursor, 25)
+            heard = time.monotonic()
             self._fault(None)
-            await self.changes.take(lines, now() if live else None, cursor)
-            self._cursor, heard = cursor, time.monotonic()
+            await self.changes.take(lines, now() if is_live else None, cursor)
+            self._cursor = cursor
 
     async def _catch_up(self, lines: list[Change], cursor: str) -> None:
         """Takes lines of before: when each happened is not known, but for what it says itself."""

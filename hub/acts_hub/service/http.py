@@ -38,7 +38,7 @@ class ServiceClient:
                 connector = aiohttp.UnixConnector(str(self.address), limit=self.connections)
             else:
                 connector = aiohttp.TCPConnector(limit=self.connections)
-            self._session = aiohttp.ClientSession(connector=connector, auto_decompress=False)
+            self._session = aiohttp.ClientSession(connector=connector, auto_decompress=False, cookie_jar=aiohttp.DummyCookieJar())
         return self._session
 
     def _url(self, path: str) -> str:
