@@ -146,12 +146,12 @@ def test_the_status_of_a_pull_request_goes_to_its_head_commit_under_its_own_cont
 
 
 def test_a_workflow_that_makes_no_run_is_an_error_at_its_commit(told: Told) -> None:
-    pushed = told.repository.only({'broken.yml': 'on: push\njobs:\n  a: {runs-on: linux, if: "needs.b.outputs.x"}\n'})
+    pushed = told.repository.only({'broken.yml': 'name: Broken\non: push\njobs:\n  a: {runs-on: linux, if: "needs.b.outputs.x"}\n'})
     told.sender.push(pushed)
     found = until(lambda: [each for each in told.receiver.statuses() if each[0].endswith(pushed['after'])], what='the status')
     state = found[0][1]
-    assert state['state'] == 'error' and state['context'] == '.github/workflows/broken.yml (push)'
-    assert state['description'].startswith('line 3: refused 26: ') and len(state['description']) <= 140
+    assert state['state'] == 'error' and state['context'] == 'Broken (push)'
+    assert state['description'].startswith('line 4: refused 26: ') and len(state['description']) <= 140
     assert state['target_url'] == f'{told.hub.url}/octo/hello/actions/refused'
 
 

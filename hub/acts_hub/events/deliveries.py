@@ -7,7 +7,7 @@ from concurrent.futures import ThreadPoolExecutor
 from dataclasses import dataclass, field
 from typing import Any, Callable, Mapping, TypeVar
 
-from acts_workflow.values import Fault
+from acts_workflow.values import Fault, text_of
 
 from ..service.hooks import HookPort, Reply
 from ..service.http import Away
@@ -161,9 +161,10 @@ class Handler:
 
     async def start(self, path: str, delivery: Delivery, source: Source, files: Files, outcome: Outcome) -> None:
         """Posts the event of one workflow if `on` starts it."""
-        event = source.occasion.happening.event
+        event, name = source.occasion.happening.event, ''
         try:
             workflow = await self.judged(source.read, path)
+            name = name_of(workflow)
             changed = await files.changed() if starts.asks_for_files(workflow.get('on'), event) else None
             why = starts.not_wanted(workflow.get('on'), with_files(source.occasion, changed))
             if why:
@@ -171,10 +172,10 @@ class Handler:
                 return
             sent = await self.judged(source.event, path, workflow)
         except Fault as fault:
-            self.refuse(outcome, refusals.of_fault(fault, path, source.texts))
+            self.refuse(outcome, refusals.of_fault(fault, path, source.texts, name))
             return
         except (TypeError, KeyError, AttributeError, RecursionError) as fault:
-            self.refuse(outcome, Refusal(path, f'not sent: not of the form of a workflow ({fault!r})'))
+            self.refuse(outcome, Refusal(path, f'not sent: not of the form of a workflow ({fault!r})', name=name))
             return
         await self.post(path, delivery, source, sent, outcome)
 
@@ -197,8 +198,8 @@ class Handler:
             outcome.runs[path] = reply.run
             outcome.lines.append(f'{path}: created {reply.run}')
         elif reply.status in NEVER_AGAIN or reply.refusal in FULL and self.is_old(delivery):
-            refusal = refusals.of_reply(words_of(reply), reply.refusal, sent.notes, path, source.texts)
-            self.refuse(outcome, refusal)
+            name = name_of(sent.workflow)
+            self.refuse(outcome, refusals.of_reply(words_of(reply), reply.refusal, sent.notes, path, source.texts, name))
         else:
             raise NotNow(f'the service answers {reply.status}, {reply.words}')
 
@@ -231,6 +232,12 @@ def with_files(occasion: Occasion, files: list[str] | None) -> starts.Happening:
     """What the filters of `on` ask of an event."""
     at = occasion.happening
     return starts.Happening(at.event, at.action, at.kind, at.name, files, at.workflow)
+
+
+def name_of(workflow: Mapping[str, Any]) -> str:
+    """The name of a workflow; an empty text if it has none."""
+    name = workflow.get('name')
+    return text_of(name) if isinstance(name, (str, int)) else ''
 
 
 def words_of(reply: Reply) -> str:

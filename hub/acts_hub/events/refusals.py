@@ -15,13 +15,14 @@ LONGEST = 1000
 
 @dataclass(frozen=True)
 class Refusal:
-    """Why one workflow makes no run."""
+    """Why one workflow makes no run. `name` is the workflow's own, or an empty text."""
 
     path: str
     words: str
     code: int | None = None
     line: int | None = None
     advice: str = ''
+    name: str = ''
 
     @property
     def text(self) -> str:
@@ -41,18 +42,19 @@ def line_in(texts: Mapping[str, str], path: str, place: str) -> int | None:
     return reading.line_of(text, place)
 
 
-def of_fault(fault: Fault, path: str, texts: Mapping[str, str]) -> Refusal:
+def of_fault(fault: Fault, path: str, texts: Mapping[str, str], name: str = '') -> Refusal:
     """Of what the hub does not send."""
     line = fault.line or (line_in(texts, path, fault.place) if fault.place else None)
     advice = profile.advice(fault.number, fault.words)
-    return Refusal(path, f'not sent: {str(fault)[:LONGEST]}', fault.number, line, advice)
+    return Refusal(path, f'not sent: {str(fault)[:LONGEST]}', fault.number, line, advice, name)
 
 
-def of_reply(words: str, code: int | None, notes: Iterable[Note], path: str, texts: Mapping[str, str]) -> Refusal:
+def of_reply(words: str, code: int | None, notes: Iterable[Note], path: str, texts: Mapping[str, str],
+             name: str = '') -> Refusal:
     """Of what the service refuses. The places that are known to be outside of what it takes say which."""
     known = [note for note in notes if note.number == code]
     if not known:
-        return Refusal(path, words[:LONGEST], code, None, profile.advice(code, ''))
+        return Refusal(path, words[:LONGEST], code, None, profile.advice(code, ''), name)
     listed = '; '.join(f'{note.place}: {note.text}' for note in known)
     line = line_in(texts, path, known[0].place)
-    return Refusal(path, f'{words}: {listed}'[:LONGEST], code, line, profile.advice(code, known[0].text))
+    return Refusal(path, f'{words}: {listed}'[:LONGEST], code, line, profile.advice(code, known[0].text), name)

@@ -57,7 +57,7 @@ def refused_status(url: str, repository: str, sha: str, event: str, refusal: Ref
     """The status of a commit whose workflow made no run."""
     where = f'line {refusal.line}: ' if refusal.line else ''
     return {'repository': repository, 'sha': sha, 'status': {
-        'state': 'error', 'context': context_of('', refusal.path, event),
+        'state': 'error', 'context': context_of(refusal.name, refusal.path, event),
         'description': (where + refusal.words)[:LONGEST], 'target_url': page_of(url, repository, 'refused')}}
 
 
