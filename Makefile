@@ -13,9 +13,9 @@ first-run:
 build:
 	bench/build
 
-# Installs below PREFIX, with DESTDIR before all paths: the program of `make build`, a manual page made from its help texts, the runner, the bridge and the watchdog
-# in lib/acts, and their units for systemd. `make install PREFIX=$HOME/.local` installs elsewhere, `make install ACTS=PATH` another program, and UNITS=FOLDER the
-# units in another folder. It says so if systemd does not look there.
+# Installs below PREFIX, with DESTDIR before all paths: the program of `make build`, a manual page made from its help texts, the board, the hub and the runner, and the
+# units for systemd. `make install PREFIX=$HOME/.local` installs elsewhere, `make install ACTS=PATH` another program, and UNITS=FOLDER the units in another folder. It
+# says so if systemd does not look there.
 PREFIX ?= /usr/local
 UNITS ?= $(PREFIX)/lib/systemd/system
 SYSTEMD_UNITS := /etc/systemd/system /usr/local/lib/systemd/system /usr/lib/systemd/system /lib/systemd/system
@@ -23,22 +23,18 @@ SYSTEMD_UNITS := /etc/systemd/system /usr/local/lib/systemd/system /usr/lib/syst
 install:
 	@test -x $(ACTS) || { echo 'install: make build first: there is no $(ACTS)' >&2; exit 1; }
 	install -D -m 755 $(ACTS) $(DESTDIR)$(PREFIX)/bin/acts
-	install -d $(DESTDIR)$(PREFIX)/share/man/man1 $(DESTDIR)$(PREFIX)/share/acts $(DESTDIR)$(PREFIX)/lib/acts $(DESTDIR)$(UNITS)
+	install -d $(DESTDIR)$(PREFIX)/share/man/man1 $(DESTDIR)$(PREFIX)/share/acts
 	docs/man_page $(DESTDIR)$(PREFIX)/bin/acts > $(DESTDIR)$(PREFIX)/share/man/man1/acts.1
-	install -m 755 $(filter-out examples/runner_cases_% %_trials.py examples/chromium.py,$(wildcard examples/*.py)) $(DESTDIR)$(PREFIX)/lib/acts
-	install -m 644 examples/runners.haproxy $(DESTDIR)$(PREFIX)/share/acts
 	install -D -t $(DESTDIR)$(PREFIX)/share/acts/board -m 644 $(wildcard examples/board/*)
-	install -D -t $(DESTDIR)$(PREFIX)/share/acts/prometheus -m 644 $(wildcard examples/prometheus/*)
-	for unit in examples/*.service; do sed 's,/usr/local/,$(PREFIX)/,g' $$unit > $(DESTDIR)$(UNITS)/$${unit##*/} || exit 1; done
+	@$(MAKE) --silent --no-print-directory -f hub/targets.mk hub-install PREFIX='$(PREFIX)' UNITS='$(UNITS)' DESTDIR='$(DESTDIR)'
 	@$(if $(filter $(UNITS),$(SYSTEMD_UNITS)),,echo 'systemd does not look in $(UNITS): `systemctl link $(UNITS)/acts.service` lets it find this unit')
 
 # Plays the fan-out and fan-in to its end and compares the answers.
 example: build
 	$(ACTS) play < examples/fan_out_fan_in.script | diff - examples/fan_out_fan_in.answers
 
-# All of examples/ with a trial of the program: the quick start, on free ports; the runner under restarts, cut streams, kills and cancelled steps;
-# events from GitHub's webhooks; the watchdog; HAProxy with certificates; what an operator does; the units under systemd; the board of runs; notices of
-# runs; metrics and alerts; and four stores on two machines. Needs bash, curl, jq, git, Python 3.9 and util-linux, and says what is missing.
+# All of examples/ with a trial of the program: the quick start, on free ports; what an operator does; the board of runs; and four stores on two machines. Needs
+# bash, curl, jq, git, Python 3.9 and util-linux, and says what is missing. What was tried of runners, events, the watchdog, units and metrics is in hub/tests.
 # `examples/try_examples $(ACTS)` does the same with the proved program.
 serve-example:
 	examples/try_examples

@@ -4,15 +4,13 @@ import shutil
 import signal
 import socket
 import sys
-import tempfile
 import time
 
 HERE = os.path.dirname(os.path.abspath(__file__))
-EXAMPLES = os.path.join(HERE, '..', '..', 'examples')
-sys.path += [EXAMPLES, os.path.join(HERE, '..', 'engine')]
+sys.path += [os.path.join(HERE, '..', 'engine')]
 import machines
 import processes
-from runner_trials import Here, certificates, forward, server_tls
+from served import Here, forward
 
 
 class Machine:
@@ -30,30 +28,20 @@ class Machine:
 
 
 class Apart:
-    """A machine `service`, and one for each host. The service listens on the loopback interface of its machine alone. A proxy on its machine's address
-    speaks TLS with the runners, and asks for a certificate. A runner that speaks no TLS reaches that address by a port of its own machine."""
+    """A machine `service`, and one for each host. The service listens on the loopback interface of its machine alone. A proxy listens on its machine's
+    address. A runner reaches that address by a port of its own machine."""
 
-    def __init__(self, hosts, speaks_tls):
+    def __init__(self, hosts):
         self.network = machines.Network(f'runners{os.getpid()}', ['service', *hosts])
         self.address, self.listeners, self.cuts = self.network.addresses['service'], [], 0
-        self.folder = tempfile.TemporaryDirectory()
-        self.tls = self.made_tls() if speaks_tls else None
         self.service, self.machines = Machine(self, 'service'), [Machine(self, name) for name in hosts]
 
-    def made_tls(self):
-        try:
-            certificates(self.folder.name, self.address)
-            return server_tls(self.folder.name)
-        except BaseException:
-            self.remove()
-            raise
-
-    def listen(self, name, address, connect, tls=None):
+    def listen(self, name, address, connect):
         """Passes on what comes to an address of a machine. Gives the port."""
         with machines.Inside(self.network, name):
             listener = socket.create_server((address, 0))
         self.listeners.append(listener)
-        forward(listener, connect, tls)
+        forward(listener, connect)
         return listener.getsockname()[1]
 
     def join(self, name, port):
@@ -62,14 +50,10 @@ class Apart:
 
     def begin(self, service):
         """The proxy of a service, which is on its machine."""
-        self.port = self.listen('service', self.address, lambda: self.service.connect(service.runners), self.tls)
+        self.port = self.listen('service', self.address, lambda: self.service.connect(service.runners))
 
     def reach(self, name, service):
-        if not self.tls:
-            return [str(self.listen(name, '127.0.0.1', lambda: self.join(name, self.port)))]
-        files = [word for option, file in (('--ca', 'ca.pem'), ('--certificate', 'runner.pem'), ('--key', 'runner.key'))
-                 for word in (option, os.path.join(self.folder.name, file))]
-        return ['--connect', f'{self.address}:{self.port}', *files]
+        return ['--port', str(self.listen(name, '127.0.0.1', lambda: self.join(name, self.port)))]
 
     def cut(self, host, seconds):
         """Cuts the link of a host for a while; gives False if there is none."""
@@ -88,10 +72,9 @@ class Apart:
 
     def remove(self):
         self.network.remove()
-        self.folder.cleanup()
 
     def __str__(self):
-        return f'each host in a network namespace of its own, {"over TLS to" if self.tls else "by a port of its own to"} a proxy, {self.cuts} cuts of a link'
+        return f'each host in a network namespace of its own, by a port of its own to a proxy, {self.cuts} cuts of a link'
 
 
 class Together:
@@ -116,15 +99,13 @@ class Together:
         return f'all hosts on this machine, since {self.why}'
 
 
-def places(hosts, runner):
+def places(hosts):
     """Namespaces, if they are to be had; says if not."""
-    with open(runner, encoding='utf-8') as file:
-        speaks_tls = "'--connect'" in file.read()
-    missing = [name for name in ('ip', 'nsenter', 'openssl') if not shutil.which(name)]
+    missing = [name for name in ('ip', 'nsenter') if not shutil.which(name)]
     if os.geteuid() or missing:
         return Together(hosts, f'{missing[0]} is not here' if missing else 'only root makes namespaces')
     signal.signal(signal.SIGTERM, lambda *_: sys.exit('ended by a signal'))  # so that the namespaces are removed
     try:
-        return Apart([f'host{number}' for number in range(hosts)], speaks_tls)
+        return Apart([f'host{number}' for number in range(hosts)])
     except processes.Wrong as fault:
         return Together(hosts, f'no namespace could be made: {fault}')

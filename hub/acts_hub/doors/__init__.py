@@ -1,0 +1,1 @@
+"""Where the ports of the service are, and who reaches them."""

@@ -1,0 +1,1 @@
+"""What the service does not keep: SQLite, and files."""

@@ -1,0 +1,76 @@
+"""Runners: those at work and those that are there before those of which nobody has heard for long."""
+from __future__ import annotations
+
+from collections.abc import Mapping
+from dataclasses import dataclass
+
+from aiohttp import web
+
+from ..access.identity import Right
+from ..service.models import Runner, Whole
+from . import moments, states
+from .filters import words_of
+from .names import leg_link, leg_name
+from .site import Site, signed_in
+from .waiting import AWAY, is_there
+
+MOST_SHOWN, MOST_AWAY = 200, 50
+BUSY, IDLE, GONE = states.Sign('running', 'At work'), states.Sign('success', 'Idle'), states.Sign('skipped', 'Away')
+
+
+@dataclass(frozen=True)
+class RunnerRow:
+    """A runner in a list."""
+
+    name: str
+    sign: states.Sign
+    labels: tuple[str, ...]
+    link: str
+    leg: str
+    repository: str
+    heard: str
+
+
+def _row(site: Site, request: web.Request, runner: Runner, wholes: Mapping[int, Whole]) -> RunnerRow:
+    sign = BUSY if runner.lease else IDLE if is_there(runner) else GONE
+    link = leg = repository = ''
+    lease = runner.lease
+    run = site.hub.mirror.runs.get(lease.run) if lease else None
+    if lease is not None and run is not None and site.may(request, Right.READ, run.row.repository):
+        whole = wholes.get(lease.run)
+        for index, job in enumerate(whole.jobs if whole else ()):
+            for one in job.legs:
+                if (job.id, one.index) == (lease.job, lease.leg):
+                    link, leg, repository = leg_link(run, run.row.attempt, index,
+                                                     one.index), leg_name(run, job, one), run.row.repository
+    return RunnerRow(runner.name, sign, runner.labels or (), link, leg, repository,
+                     moments.seconds_ago(runner.heard_seconds_ago))
+
+
+def _fits(runner: Runner, q: str) -> bool:
+    return q in runner.name.casefold() or any(q in label.casefold() for label in runner.labels or ())
+
+
+async def runners(site: Site, request: web.Request) -> web.StreamResponse:
+    """The page of runners."""
+    signed_in(request)
+    q = words_of(request.query)
+    every = [one for one in await site.runners() if _fits(one, q.casefold())]
+    order = sorted(every, key=lambda one: (one.heard_seconds_ago is None, one.heard_seconds_ago, one.name))
+    kinds = {'At work': [one for one in order if one.lease],
+             'Idle': [one for one in order if not one.lease and is_there(one)],
+             'Away': [one for one in order if not is_there(one)]}
+    wholes = await site.wholes(one.lease.run for one in kinds['At work'][:MOST_SHOWN] if one.lease
+                               and one.lease.run in site.hub.mirror.runs)
+    sections = []
+    for title, found in kinds.items():
+        most = MOST_AWAY if title == 'Away' else MOST_SHOWN
+        sections.append((title, [_row(site, request, one, wholes) for one in found[:most]], max(0, len(found) - most)))
+    counts = {'busy': len(kinds['At work']), 'idle': len(kinds['Idle']), 'away': len(kinds['Away']), 'all': len(every)}
+    return site.page(request, 'runners.html', title='Runners', active='runners', q=q, counts=counts, sections=sections,
+                     away_words=moments.lasted(AWAY * 1000), changes='/-/changes', every=10)
+
+
+def routes(site: Site) -> list[web.RouteDef]:
+    """Runners."""
+    return [site.get('/runners', runners)]

@@ -1,0 +1,1 @@
+"""acts-hub up: a service, a hub and a runner with one command."""

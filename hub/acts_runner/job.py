@@ -1,0 +1,609 @@
+"""Runs the steps of a leg: what each is given, which are due, and what the job comes to."""
+from __future__ import annotations
+
+import contextlib
+import json
+import os
+import platform
+import re
+import secrets
+import shutil
+import stat
+import sys
+import time
+from collections import Counter
+from dataclasses import dataclass, field
+from typing import Any, Iterable, Mapping, Sequence
+
+from acts_workflow.values import text_of
+
+from . import act, container, expressions
+from .actions import Action
+from .builtin import builtin_of
+from .builtin.base import Call, Post
+from .builtin.cache import Caches
+from .logs import Log, unused
+from .options import Options
+from .plan import Plan
+from .state import Held
+from .steps import ENDINGS, Cancelled, Clock, Files, Inside, Process, StepFailed, shell_words
+from .storage import FolderStorage, Storage, StorageFault
+
+MINUTES = 360  # of a job that names none
+ARCHITECTURES = {'x86_64': 'X64', 'aarch64': 'ARM64', 'armv7l': 'ARM'}
+HIDDEN = {'CREDENTIALS_DIRECTORY'}  # of systemd, in which the token of the runner is
+Step = dict[str, Any]
+
+
+def variables(values: Mapping[str, Any], prefix: str) -> dict[str, str]:
+    """The members of an object, other than lists and objects, as variables for a step."""
+    return {prefix + re.sub(r'\W', '_', name).upper(): text_of(value) for name, value in values.items()
+            if not isinstance(value, (dict, list))}
+
+
+def remove(folder: str) -> None:
+    """Removes a folder with all that steps left in it, and makes folders writable where it must."""
+    def again(_function: Any, path: str, _fault: Any) -> None:
+        for name in (os.path.dirname(path), path):
+            with contextlib.suppress(OSError):
+                os.chmod(name, stat.S_IRWXU)
+        with contextlib.suppress(OSError):
+            if os.path.isdir(path) and not os.path.islink(path):
+                shutil.rmtree(path)
+            else:
+                os.unlink(path)
+    if os.path.isdir(folder):
+        shutil.rmtree(folder, onerror=again)
+    if os.path.isdir(folder):  # files of another user's, as from a container
+        os.rename(folder, f'{folder}-left-{secrets.token_hex(6)}')
+
+
+def folders(options: Options) -> tuple[str, str]:
+    """The workspace, and the folder for files of the runner's, in the present folder or below --work."""
+    root = os.path.join(options.work, options.full_name) if options.work else os.getcwd()
+    return os.path.join(root, 'work'), os.path.join(root, 'temp')
+
+
+def clear(options: Options) -> None:
+    """Removes what a leg has left."""
+    container.remove_left()
+    for folder in folders(options):
+        remove(folder)
+
+
+@dataclass
+class Frame:
+    """Where steps stand: in the job, or in an action that has steps."""
+
+    inputs: Any
+    place: str | None = None
+    steps: dict[str, Any] = field(default_factory=dict)
+    status: str = 'success'
+    env: dict[str, str] = field(default_factory=dict)
+
+
+class Job:
+    """A leg with all that its steps are given."""
+
+    def __init__(self, order: dict[str, Any], asked: Sequence[float]) -> None:
+        self.leg, self.options = Held(**order['leg']), Options.of(order['options'])
+        self.body: dict[str, Any] = json.loads(order['body'])
+        self.facts: dict[str, Any] = order.get('facts') or {}
+        self.workflow: dict[str, Any] = self.body['workflow']
+        self.name, self.job = self.leg.job, self.workflow['jobs'][self.leg.job]
+        self.matrix: dict[str, Any] = json.loads(self.leg.combo)
+        self.workspace, self.temp = folders(self.options)
+        self.tool_cache = self.options.tool_cache or os.path.join(os.path.dirname(self.workspace), 'tools')
+        self.github = self.context_github()
+        is_fork = is_of_a_fork(self.github, self.body['repo'])
+        self.secrets = {} if is_fork else secrets_in(self.options.secrets, environment_of(self.job))
+        self.log = log_of(self.options, self.leg, self.facts, self.secrets.values())
+        self.storage, self.caches = self.stores()
+        self.needs = self.needs_of(self.facts.get('results') or {})
+        if 'GITHUB_TOKEN' in self.secrets:
+            self.github['token'] = self.secrets['GITHUB_TOKEN']
+        self.frame, self.env, self.path = Frame(self.body.get('inputs') or {}), dict[str, str](), list[str]()
+        self.posts: list[Step] = []
+        self.count, self.number, self.called = 0, 1, Counter[str]()
+        defaults = ((self.workflow.get('defaults') or {}).get('run') or {}, (self.job.get('defaults') or {}).get('run') or {})
+        self.defaults: dict[str, Any] = {**defaults[0], **defaults[1]}
+        self.shell = self.defaults.get('shell')
+        self.asked, self.clock = asked, Clock(asked, MINUTES)
+        self.container: container.Container | None = None
+        self.services: list[container.Service] = []
+
+    def context_github(self) -> dict[str, Any]:
+        """The context `github`: of the body, of the hub, and of this runner."""
+        body = self.body.get('github') or {}
+        return {**(self.facts.get('github_defaults') or {}), **body, 'repository': self.body['repo'],
+                'workflow': self.workflow.get('name') or self.body['path'], 'run_id': self.leg.run, 'job': self.name, 'action': '__run',
+                'workspace': self.workspace, 'event_path': os.path.join(self.temp, 'event.json'),
+                **(self.facts.get('github') or {})}
+
+    def stores(self) -> tuple[Storage | None, Caches | None]:
+        """Where artifacts, outputs and caches are."""
+        if self.options.hub:
+            from .hub import HubStorage  # a runner without a hub needs no aiohttp
+            storage = HubStorage(self)
+            return storage, storage
+        if not self.options.artifacts:
+            return None, None
+        attempt = str(self.github.get('run_attempt') or 'unknown')
+        return FolderStorage.of(self.options.artifacts, self.body['repo'], self.leg.run, attempt, self.leg.body or '',
+                                self.name), None
+
+    def needs_of(self, results: Mapping[str, str]) -> dict[str, Any] | None:
+        """The context `needs`; None if something of it is not known. A job without a condition of its own begins after
+        success alone."""
+        names = self.job.get('needs') or []
+        plain = str(self.job.get('if', True)).strip('${} ').lower() in ('true', 'success()')
+        found = {}
+        for name in [names] if isinstance(names, str) else names:
+            result = results.get(name) or ('success' if plain else None)
+            has_some = (self.workflow['jobs'].get(name) or {}).get('outputs')
+            outputs: dict[str, str] | None = {}
+            if has_some:
+                outputs = self.storage.outputs_of(name) if self.storage else None
+                if outputs is None and result in ('skipped', 'failure', 'cancelled'):
+                    outputs = {}  # a job that did not come to its end has handed on none
+            if result is None or outputs is None:
+                return None
+            found[name] = {'result': result, 'outputs': outputs}
+        return found
+
+    # What expressions and steps are given.
+
+    def contexts(self, frame: Frame | None = None, env: Mapping[str, str] | None = None) -> dict[str, Any]:
+        """The contexts of a step."""
+        frame = frame or self.frame
+        strategy = {name: value for name, value in (self.job.get('strategy') or {}).items() if name != 'matrix'}
+        github = {**self.github, **({'action_path': frame.place} if frame.place else {})}
+        needs = {} if self.needs is None else {'needs': self.needs}
+        return {**needs, 'github': github, 'inputs': frame.inputs, 'vars': self.body.get('vars') or {},
+                'matrix': self.matrix, 'secrets': self.secrets, 'steps': frame.steps, 'env': self.env if env is None else env,
+                'strategy': {'fail-fast': True, **strategy, **(self.facts.get('strategy') or {}),
+                             'job-index': int(self.leg.leg)},
+                'job': self.context_job(frame), 'runner': self.context_runner()}
+
+    def context_job(self, frame: Frame) -> dict[str, Any]:
+        """The context `job`."""
+        network = self.services[0].by.network if self.services else self.container.by.network if self.container else ''
+        inside = {'container': {'id': self.container.name, 'network': network}} if self.container else {}
+        return {'status': self.status(frame), **inside, 'services': {each.label: each.context() for each in self.services}}
+
+    def context_runner(self) -> dict[str, Any]:
+        """The context `runner`."""
+        machine, above = platform.machine(), os.path.dirname(self.workspace)
+        return {'os': 'Linux', 'arch': ARCHITECTURES.get(machine, machine), 'name': self.options.name, 'temp': self.temp,
+                'tool_cache': self.tool_cache, 'workspace': above, 'environment': 'self-hosted',
+                **({'debug': '1'} if self.is_debug() else {})}
+
+    def is_debug(self) -> bool:
+        """Whether `::debug::` is shown."""
+        name = 'ACTIONS_STEP_DEBUG'
+        return 'true' in (self.secrets.get(name), text_of((self.body.get('vars') or {}).get(name)))
+
+    def text(self, value: Any, frame: Frame, env: Mapping[str, str]) -> str:
+        """A text of a step with its expressions replaced."""
+        return expressions.text_in(value, self.contexts(frame, env), self.workspace, lax=frame.place is not None)
+
+    def texts(self, values: Mapping[str, Any] | None, frame: Frame, env: Mapping[str, str]) -> dict[str, str]:
+        """Texts of a step."""
+        return {name: self.text(value, frame, env) for name, value in (values or {}).items()}
+
+    def given(self, frame: Frame) -> dict[str, str]:
+        """The variables that every step has."""
+        contexts = self.contexts(frame)
+        values = {name: value for name, value in contexts['github'].items() if name != 'token'}
+        return {'CI': 'true', 'GITHUB_ACTIONS': 'true', 'COMBO': self.leg.combo, **variables(self.matrix, 'MATRIX_'),
+                **variables(values, 'GITHUB_'), **variables(contexts['runner'], 'RUNNER_')}
+
+    def environment(self, frame: Frame, env: Mapping[str, str], files: Files) -> dict[str, str]:
+        """All variables of a step. In a container those of this machine have no place."""
+        outside = {} if self.container else {name: value for name, value in os.environ.items() if name not in HIDDEN}
+        made: dict[str, str] = {**outside, **env, **self.given(frame), **files.paths, **({'CI': env['CI']} if 'CI' in env else {})}
+        if self.path or not self.container:
+            made['PATH'] = ':'.join([*reversed(self.path), made.get('PATH') or (self.container.path if self.container else '')])
+        return {name: value.replace('\0', '') for name, value in made.items()}
+
+    def status(self, frame: Frame) -> str:
+        """How the steps so far ended."""
+        return 'cancelled' if self.clock.is_cancelled() else frame.status
+
+    # The job.
+
+    def run(self) -> str:
+        """Runs the steps, and gives how the leg ended."""
+        self.log.mark(step=1, name='Set up job', begins=True)
+        refusals = self.set_up()
+        for refusal in refusals:
+            self.log.refuse(refusal)
+        self.log.mark(step=1, ends=True, outcome='failure' if refusals else 'success')
+        result = 'failure' if refusals else act.run(self) if self.options.act else self.run_steps()
+        self.log.mark(complete=True, result=result)
+        return result
+
+    def set_up(self) -> list[str]:
+        """Makes what steps need. Gives what can't be done, in words: then no step runs."""
+        self.log.quiet(f'runner {self.options.full_name}, machine {platform.node()}, {platform.system()} {platform.machine()}')
+        for folder in (self.workspace, self.temp):
+            remove(folder)
+            os.makedirs(folder)
+        if isinstance(self.storage, FolderStorage):
+            self.storage.forget_outputs()
+        faults = self.faults()
+        if faults:
+            return faults
+        with open(self.github['event_path'], 'w', encoding='utf-8') as file:
+            json.dump(self.github.get('event') or {}, file)
+        try:
+            self.begin_containers()
+        except ValueError as fault:
+            return [f'jobs.{self.name}.{"container" if self.job.get("container") else "services"}: {fault}']
+        return []
+
+    def run_steps(self) -> str:
+        """Runs the steps of the job, and what actions do after them."""
+        self.run_all(self.job['steps'], self.frame)
+        for post in reversed(self.posts):
+            self.run_numbered(post, post['frame'])
+        self.number += 1
+        self.log.mark(step=self.number, name='Complete job', begins=True)
+        result = self.hand_on()
+        self.log.mark(step=self.number, ends=True, outcome='success' if result == self.status(self.frame) else 'failure')
+        return result
+
+    def hand_on(self) -> str:
+        """Keeps the outputs of the job, where there is a place for them. One with a secret in it is left out."""
+        if self.job.get('outputs') and self.storage:
+            try:
+                values = self.texts(self.job['outputs'], self.frame, self.env)
+                hidden = {name for name, value in values.items() if self.log.masked(value) != value}
+                for name in sorted(hidden):
+                    self.log.write(f'the output {name} is left out, since a secret is in it')
+                self.storage.keep_outputs({name: value for name, value in values.items() if name not in hidden})
+            except (ValueError, OSError, StorageFault) as fault:
+                self.log.write(f'the outputs are not kept: {fault}')
+                return 'failure'
+        return self.status(self.frame)
+
+    def begin_containers(self) -> None:
+        """Starts the services of the job, and the container of its steps."""
+        said: dict[str, Any] = self.job.get('services') or {}
+        if not self.job.get('container') and not said:
+            return
+        by = container.Engine()
+        if said:
+            by.make_network()
+        for label, value in said.items():
+            image = container.described(value).each(lambda text: self.text(text, self.frame, self.env))
+            self.services.append(container.Service(by, label, image))
+        for service in self.services:
+            service.wait(self.clock.is_cancelled)
+            self.log.quiet(f'service {service.label}: {service.name} is up')
+        if self.job.get('container'):
+            image = container.described(self.job['container']).each(lambda text: self.text(text, self.frame, self.env))
+            self.container = container.Container(by, image, (self.workspace, self.temp))
+
+    def faults(self) -> list[str]:
+        """What can't be done, in words. Nothing has run yet."""
+        try:
+            faults = act.faults(self) if self.options.act else Plan.of_all(self)
+            if not faults:
+                for values in (self.workflow.get('env'), self.job.get('env')):
+                    self.env.update(self.texts(values, self.frame, self.env))
+                minutes = expressions.value_of(self.job.get('timeout-minutes', MINUTES), self.contexts())
+                self.clock = Clock(self.asked, float(minutes))
+            return faults
+        except (ValueError, TypeError, KeyError, AttributeError) as fault:
+            return [f'jobs.{self.name}: not of the form of a job ({fault!r})']
+
+    def run_all(self, steps: Iterable[Step], frame: Frame) -> None:
+        """Runs steps in their order. Those of the job have numbers."""
+        for step in steps:
+            if self.clock.is_over():
+                self.log.quiet('##[warning]the time for steps after a cancel is over')
+                break
+            if frame is self.frame:
+                self.run_numbered(step, frame)
+            else:
+                self.run_step(step, frame)
+
+    def run_numbered(self, step: Step, frame: Frame) -> None:
+        """Runs a step of the job, between its marks."""
+        self.number += 1
+        self.github['action'] = self.action_of(step)
+        self.log.mark(step=self.number, name=self.title(step, frame), begins=True)
+        result = self.run_step(step, frame)
+        self.log.mark(step=self.number, ends=True, **result)
+
+    def action_of(self, step: Step) -> str:
+        """`github.action`: the id of a step, else `__run` or the name of its action, with a number from the second on."""
+        if step.get('id'):
+            return str(step['id'])
+        name = '__' + re.sub('[^A-Za-z0-9-]+', '_', str(step['uses']).partition('@')[0]).strip('_') if step.get('uses') else '__run'
+        self.called[name] += 1
+        return name if self.called[name] == 1 else f'{name}_{self.called[name]}'
+
+    def title(self, step: Step, frame: Frame) -> str:
+        """The name of a step, as GitHub shows it."""
+        plain = step.get('name') or 'Run ' + (step.get('uses') or str(step.get('run')).strip().partition('\n')[0])
+        try:
+            return self.text(plain, frame, self.env)[:500]
+        except ValueError:
+            return str(plain)[:500]
+
+    def run_step(self, step: Step, frame: Frame) -> dict[str, str]:
+        """Runs a step if it is due, and notes what it came to."""
+        outputs: dict[str, str] = {}
+        outcome = 'skipped'
+        try:
+            env = {**self.env, **frame.env}
+            env.update(self.texts(step.get('env'), frame, env))
+            if self.is_due(step, frame, env, self.status(frame)):
+                outcome = self.perform(step, frame, env, outputs)
+        except Cancelled:
+            outcome = 'cancelled'
+        except Exception as fault:  # of whatever kind, it is this step's alone
+            self.log.write(f'the step fails: {fault}')
+            self.log.annotate(annotation(f'the step fails: {fault}'), self.number)
+            outcome = 'failure'
+        conclusion = 'success' if outcome == 'failure' and self.is_allowed(step, frame) else outcome
+        if conclusion == 'failure' and frame.status == 'success':
+            frame.status = 'failure'
+        if step.get('id'):
+            frame.steps[step['id']] = {'outputs': outputs, 'outcome': outcome, 'conclusion': conclusion}
+        return {'outcome': outcome, 'conclusion': conclusion}
+
+    def is_due(self, step: Step, frame: Frame, env: Mapping[str, str], status: str) -> bool | None:
+        """Whether a step runs after steps that ended so."""
+        contexts = self.contexts(frame, env)
+        return expressions.condition_of(step.get('if', ''), contexts, status, self.workspace, frame.place is not None)
+
+    def is_allowed(self, step: Step, frame: Frame) -> bool:
+        """Whether the step may fail."""
+        with contextlib.suppress(ValueError):
+            return self.text(step.get('continue-on-error', False), frame, self.env) == 'true'
+        return False
+
+    def perform(self, step: Step, frame: Frame, env: dict[str, str], outputs: dict[str, str]) -> str:
+        """What a step came to. Sets its outputs."""
+        folder = self.step_folder()
+        step = {**step, 'late': self.late_of(step, frame, env), 'frame': frame}
+        if 'run' in step:
+            return self.run_script(step, frame, env, outputs, folder)
+        if 'node' in step:
+            return self.run_node(step, env, outputs, folder)
+        if 'after' in step:
+            after: Post = step['after']
+            after(self, self.caller(step, frame, env, folder))
+            return 'success'
+        builtin = builtin_of(step['uses'], self.options)
+        given = self.texts(step.get('with'), frame, env)
+        if not builtin:
+            return self.run_action(Action.of(self, step['uses']), given, step, frame, env, outputs)
+        outputs.update(builtin.run(self, given, self.caller(step, frame, env, folder)))
+        post = builtin.post(self, given, outputs)
+        if post:
+            self.posts.append({'name': f'Post {self.title(step, frame)}', 'if': 'success()', 'after': post, 'frame': frame})
+        return 'success'
+
+    def step_folder(self) -> str:
+        """A folder for the files of one step."""
+        self.count += 1
+        folder = os.path.join(self.temp, f'step-{self.count}')
+        os.makedirs(folder)
+        return folder
+
+    def late_of(self, step: Step, frame: Frame, env: Mapping[str, str]) -> float:
+        """Until when a step may run."""
+        minutes = expressions.value_of(step.get('timeout-minutes'), self.contexts(frame, env))
+        return time.monotonic() + 60 * float(minutes) if minutes is not None else float('inf')
+
+    # Processes.
+
+    def spawn(self, words: Sequence[str], place: str, step: Step, frame: Frame, env: dict[str, str],
+              note: str | None = None) -> tuple[str, Process]:
+        """Runs a process to its end, and gives how it ended. With a note it runs in the container of the job, if it has
+        one."""
+        if not os.path.isdir(place):
+            raise StepFailed(f'there is no folder {place}')
+        inside = Inside(self.container, note) if self.container and note else None
+        process = Process(words, place, env, self.log, inside, self.number, self.is_debug())
+        return process.wait(self.clock, step['late'], lambda: self.is_due(step, frame, env, 'cancelled')), process
+
+    def caller(self, step: Step, frame: Frame, env: dict[str, str], folder: str) -> Call:
+        """Runs processes of an action that this runner does itself."""
+        def call(*words: str, cwd: str) -> None:
+            given = {**os.environ, **self.environment(frame, env, Files(folder)), 'GIT_TERMINAL_PROMPT': '0'}
+            outcome, _ = self.spawn(words, cwd, step, frame, given)
+            if outcome == 'cancelled':
+                raise Cancelled
+            if outcome != 'success':
+                raise StepFailed(' '.join(words[:2]) + ' has failed')
+        return call
+
+    def run_script(self, step: Step, frame: Frame, env: dict[str, str], outputs: dict[str, str], folder: str) -> str:
+        """Runs a step of `run`."""
+        shell = self.text(step.get('shell', None if frame.place else self.shell), frame, env) or None
+        words = shell_words(shell, inside=self.container is not None)
+        script, text = os.path.join(folder, 'script' + ENDINGS.get(shell or '', '.sh')), self.text(step['run'], frame, env)
+        with open(script, 'w', encoding='utf-8') as file:
+            file.write(text + '\n')
+        self.announce(text, words, step, env)
+        default = None if frame.place else self.defaults.get('working-directory')
+        place = self.text(step.get('working-directory', default) or '.', frame, env)
+        return self.run_process([word.replace('{0}', script) for word in words], place, step, frame, env, outputs, folder)
+
+    def announce(self, text: str, words: Sequence[str], step: Step, env: Mapping[str, str]) -> None:
+        """Writes what is run, as GitHub's logs have it."""
+        lines = text.strip('\n').split('\n')
+        self.log.quiet(f'##[group]Run {lines[0]}')
+        for line in lines:
+            self.log.quiet(line)
+        self.log.quiet(f'shell: {" ".join(words)}')
+        if step.get('env'):
+            self.log.quiet('env:')
+            for name in step['env']:
+                self.log.quiet(f'  {name}: {env.get(name, "")}')
+        self.log.quiet('##[endgroup]')
+
+    def run_process(self, words: Sequence[str], place: str, step: Step, frame: Frame, env: dict[str, str],
+                    outputs: dict[str, str], folder: str) -> str:
+        """Runs the process of a step, and takes what it hands on."""
+        files = Files(folder)
+        env = self.environment(frame, env, files)
+        outcome, process = self.spawn(words, os.path.normpath(os.path.join(self.workspace, place)), step, frame, env,
+                                      os.path.join(folder, 'process'))
+        if outcome == 'failure':
+            late = process.why is not None
+            words_of_it = 'The step is over its time limit.' if late else \
+                f'Process completed with exit code {process.child.returncode}.'
+            self.log.quiet(f'##[error]{words_of_it}')
+            self.log.annotate(annotation(words_of_it), self.number)
+        summary = files.text('GITHUB_STEP_SUMMARY')
+        if summary:
+            self.log.summarize(summary, self.number)
+        outputs.update({**process.reader.outputs, **files.values('GITHUB_OUTPUT')})
+        step.get('state', {}).update({**process.reader.state, **files.values('GITHUB_STATE')})
+        new = {name: value for name, value in files.values('GITHUB_ENV').items()
+               if not re.match('GITHUB_|RUNNER_|NODE_OPTIONS$', name)}
+        self.env.update(new)
+        self.path += [line for line in files.text('GITHUB_PATH').splitlines() if line]
+        return outcome
+
+    # Actions.
+
+    def inputs_of(self, action: Action, given: dict[str, str], env: Mapping[str, str]) -> dict[str, str]:
+        """The inputs of an action: those that are given, else their defaults."""
+        names = {name.lower(): value for name, value in given.items()}
+        inner = Frame({}, action.folder)
+        said = {name: value if isinstance(value, dict) else {} for name, value in action.inputs.items()}
+        defaults = {name: self.text(value.get('default', ''), inner, env) for name, value in said.items()}
+        missing = [name for name, value in said.items() if str(value.get('required')).lower() == 'true'
+                   and not names.get(name.lower(), defaults[name])]
+        if missing:
+            self.log.write(f'{action.uses}: no input {", ".join(missing)}')
+        known = {name: names[name.lower()] for name in defaults if name.lower() in names}
+        return {**given, **defaults, **known}
+
+    def run_action(self, action: Action, given: dict[str, str], step: Step, frame: Frame, env: dict[str, str],
+                   outputs: dict[str, str]) -> str:
+        """Runs an action, and has its `post` run later."""
+        inputs = self.inputs_of(action, given, env)
+        if action.is_local:
+            faults = Plan.of_one(self, action)
+            if faults:
+                raise StepFailed('; '.join(faults))
+        if action.using == 'composite':
+            return self.run_composite(action, inputs, env, outputs)
+        named = {'INPUT_' + name.replace(' ', '_').upper(): value for name, value in inputs.items()}
+        node: dict[str, Any] = {'action': action, 'env_of_inputs': named, 'state': {}}
+        inner = Frame(inputs, action.folder)
+        if action.runs.get('post'):
+            self.posts.append({'name': f'Post {self.title(step, frame)}', 'if': action.runs.get('post-if', 'always()'),
+                               'node': {**node, 'file': 'post'}, 'frame': inner, 'env': step.get('env')})
+        before = {'if': action.runs.get('pre-if', 'always()'), 'node': {**node, 'file': 'pre'}}
+        if action.runs.get('pre') and self.is_due(before, inner, env, self.status(frame)):
+            self.perform(before, frame, env, {})
+        main = {'node': {**node, 'file': 'main'}, 'if': step.get('if', ''), 'timeout-minutes': step.get('timeout-minutes')}
+        return self.perform(main, frame, env, outputs)
+
+    def run_composite(self, action: Action, inputs: dict[str, str], env: Mapping[str, str], outputs: dict[str, str]) -> str:
+        """Runs the steps of an action."""
+        inner = Frame(inputs, action.folder)
+        inner.env = {name: value for name, value in env.items() if self.env.get(name) != value}
+        self.run_all(action.runs['steps'], inner)
+        said = action.said.get('outputs') or {}
+        outputs.update({name: self.text(value.get('value', ''), inner, env) for name, value in said.items()})
+        return self.status(inner)
+
+    def run_node(self, step: Step, env: dict[str, str], outputs: dict[str, str], folder: str) -> str:
+        """Runs a file of an action of node."""
+        node = step['node']
+        action: Action = node['action']
+        env = {**env, **node['env_of_inputs'], **{f'STATE_{name}': value for name, value in node['state'].items()}}
+        words = ['node', os.path.join(action.folder, action.runs[node['file']])]
+        return self.run_process(words, '.', {**step, 'state': node['state']}, Frame({}, action.folder), env, outputs, folder)
+
+
+def annotation(message: str) -> dict[str, Any]:
+    """An annotation of the runner's own."""
+    return {'annotation_level': 'failure', 'message': message, 'title': None, 'path': None, 'start_line': None,
+            'end_line': None, 'start_column': None, 'end_column': None}
+
+
+def is_of_a_fork(github: Mapping[str, Any], repository: str) -> bool:
+    """Whether it is a pull request that does not come from the repository itself, as far as the event shows it."""
+    if github.get('event_name') != 'pull_request':
+        return False
+    found: Any = github.get('event')
+    for name in ('pull_request', 'head', 'repo', 'full_name'):
+        found = found.get(name) if isinstance(found, dict) else None
+    return bool(found != repository)
+
+
+def environment_of(job: Mapping[str, Any]) -> str:
+    """The name of the environment of a job; the empty text if it has none, or one that an expression names."""
+    said = job.get('environment')
+    name = said.get('name') if isinstance(said, dict) else said
+    return name if isinstance(name, str) and '${{' not in name else ''
+
+
+def secrets_in(path: str | None, environment: str) -> dict[str, str]:
+    """The secrets of this runner: a JSON object of texts, in a file that nobody else may read. Its member `environments`
+    may have more for jobs of an environment."""
+    if not path:
+        return {}
+    if os.stat(path).st_mode & 0o077:
+        raise ValueError(f'others may read {path}: chmod 600')
+    with open(path, encoding='utf-8') as file:
+        found = json.load(file)
+    if not isinstance(found, dict):
+        raise ValueError(f'{path} is no JSON object of texts')
+    more = found.pop('environments', None) or {}
+    found.update((more.get(environment) or {}) if isinstance(more, dict) else {})
+    if not all(isinstance(value, str) for value in found.values()):
+        raise ValueError(f'{path} is no JSON object of texts')
+    return found
+
+
+def log_of(options: Options, leg: Held, facts: Mapping[str, Any], secrets_of_it: Iterable[str] = ()) -> Log:
+    """The log of a leg."""
+    name = f'run-{leg.run}-{leg.job}-{leg.leg}-lease-{leg.lease}'
+    whose = {'run': leg.run, 'attempt': facts.get('attempt'), 'job': leg.job, 'leg': leg.leg, 'lease': leg.lease,
+             'claim': leg.claim} if options.hub else None
+    return Log(unused(options.logs or os.path.abspath('logs'), name, options.logs_kept), options.log_bytes, secrets_of_it, whose)
+
+
+def refused(order: dict[str, Any], fault: Exception) -> str:
+    """A leg that can't even be looked at: it says why in its log."""
+    words = str(fault) if isinstance(fault, (ValueError, OSError)) else f'not of the form of a job ({fault!r})'
+    try:
+        log = log_of(Options.of(order['options']), Held(**order['leg']), order.get('facts') or {})
+        log.mark(step=1, name='Set up job', begins=True)
+        log.refuse(words)
+        log.mark(step=1, ends=True, outcome='failure')
+        log.mark(complete=True, result='failure')
+    except OSError as full:
+        print(f'not run: {words}; and there is no log: {full}', file=sys.stderr, flush=True)
+    return 'failure'
+
+
+def run(order: dict[str, Any], asked: Sequence[float]) -> str:
+    """How the leg ended."""
+    try:
+        job = Job(order, asked)
+    except (ValueError, KeyError, TypeError, AttributeError, OSError) as fault:
+        return refused(order, fault)
+    try:
+        return job.run()
+    except Exception as fault:
+        job.log.write(f'the runner fails: {fault!r}')
+        raise
+    finally:
+        if job.storage:
+            job.storage.close()
+        if job.container:
+            job.container.empty(job.workspace)
+        container.remove_left()
