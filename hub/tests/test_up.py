@@ -163,7 +163,7 @@ def words(*given: str, **environment: str) -> tuple[int, str]:
 
 def test_what_lacks_is_said(tmp_path: pathlib.Path) -> None:
     """A program that is not there, or that is none; a folder that is too long; openssl that is not there; a runner's user."""
-    said = 'acts-hub up: there is no program /nowhere/acts: --acts PATH or the variable ACTS names it; examples/trial makes one\n'
+    said = 'acts-hub up: there is no program /nowhere/acts: --acts PATH or the variable ACTS names it; tests/trial makes one\n'
     assert words(str(tmp_path / 'a'), '--acts', '/nowhere/acts') == (1, said)
     status, said = words(str(tmp_path / 'b'), '--acts', '/bin/false')
     assert status == 1 and said.startswith('acts-hub up: /bin/false init: ')

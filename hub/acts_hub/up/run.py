@@ -56,7 +56,7 @@ def run(wishes: Wishes) -> int:
     try:
         acts = shutil.which(wishes.acts)
         if acts is None:
-            raise Unfit(f'there is no program {wishes.acts}: --acts PATH or the variable ACTS names it; examples/trial makes one')
+            raise Unfit(f'there is no program {wishes.acts}: --acts PATH or the variable ACTS names it; tests/trial makes one')
         user = _runner_user(wishes, folder)
         owner = _numbers(user)
         config = prepare(folder, os.path.abspath(acts), wishes.listen, LABELS, owner)
