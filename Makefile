@@ -105,3 +105,6 @@ definitions:
 # Processor minutes of the gate, by crate, in a fresh clone; with CRATES, of these and those below only.
 gate:
 	bench/gate
+
+# The hub: `make demo`, `make hub-test`, `make hub-packages`.
+include hub/targets.mk
