@@ -446,6 +446,40 @@ def test_a_new_run_comes_to_an_open_page(world: World, browser: Browser) -> None
     assert re.fullmatch(r'\d+ runs', browser.run('return document.getElementById("news").textContent'))
 
 
+HIDE = '''
+Object.defineProperty(document, "hidden", {configurable: true, get: () => arguments[0]});
+document.dispatchEvent(new Event("visibilitychange"));'''
+
+
+def hide(browser: Browser, is_hidden: bool) -> None:
+    browser.run(HIDE.replace('arguments[0]', 'true' if is_hidden else 'false'))
+
+
+def test_a_page_that_is_not_seen_holds_no_connection_and_goes_on_once_it_is(world: World, browser: Browser) -> None:
+    browser.open(f'/{world.stage.repository}/actions')
+    browser.is_live()
+    hide(browser, True)
+    jobs = {'build': {'runs-on': 'nobody-has-this', 'steps': [{'run': 'x'}]}}
+    run = world.stage.admit('While nobody looked', jobs=jobs)
+    world.stage.seen(run)
+    time.sleep(0.5)
+    assert 'While nobody looked' not in browser.text('#list')
+    hide(browser, False)
+    browser.until(lambda: 'While nobody looked' in browser.text('#list'), 'the run')
+    leg = world.legs['going on']
+    browser.open(leg.page)
+    browser.is_live()
+    leg.say('before it was hidden')
+    browser.until(lambda: 'before it was hidden' in browser.text('#steps'), 'the line before')
+    hide(browser, True)
+    leg.say('while it was hidden')
+    hide(browser, False)
+    leg.say('after it was hidden')
+    browser.until(lambda: 'after it was hidden' in browser.text('#steps'), 'the line after')
+    lines = [line for line in browser.text('#steps').split('\n') if 'it was hidden' in line]
+    assert lines == ['before it was hidden', 'while it was hidden', 'after it was hidden']
+
+
 def test_keys_reach_the_buttons_and_the_focus_is_seen(world: World, browser: Browser) -> None:
     run = world.stage.admit('Cancel me by keys',
                             jobs={'build': {'runs-on': 'nobody-has-this', 'steps': [{'run': 'x'}]}})
