@@ -557,6 +557,11 @@ def test_a_wrong_token_does_not_sign_in(world: World, browser: Browser) -> None:
         browser.one('#token').send_keys('acts_wrong' + Keys.ENTER)
         browser.until(lambda: browser.has('[role=alert]'), 'it is refused')
         assert 'no token of this hub' in browser.text()
+        for path in '/sign-in', '/octo/hello/none', '/sign-in?back=/queue':
+            browser.look(NARROW, dark=True)
+            browser.open(path)
+            assert browser.overflow() <= 0 and browser.run(CONTRAST) == [] and len(browser.all('h1')) == 1, path
+        browser.look()
         browser.open('/sign-in?back=https://example.org/')
         assert browser.one('main [name=back]').get_attribute('value') == '/'
         browser.one('#token').send_keys(world.writer + Keys.ENTER)
