@@ -9,13 +9,13 @@ from aiohttp import web
 from . import events, gateway, graphql, metrics, pages, rest
 from .access.middleware import identify, secure
 from .log import say
+from .rest.errors import DOCUMENTATION
 from .service.http import Away
 
 if TYPE_CHECKING:
     from .access.middleware import Handler
     from .hub import Hub
 
-DOCS = 'https://docs.github.com/rest'
 MAX_BODY = 1 << 20
 
 
@@ -41,7 +41,7 @@ def fault_answer(request: web.Request, status: int, words: str, headers: dict[st
     """JSON below /api, a page for a browser, else text."""
     kept = {name: value for name, value in headers.items() if name.lower() not in ('content-type', 'content-length')}
     if request.path.startswith('/api'):
-        return web.json_response({'message': words, 'documentation_url': DOCS}, status=status, headers=kept)
+        return web.json_response({'message': words, 'documentation_url': DOCUMENTATION}, status=status, headers=kept)
     page = request.app['hub'].fault_page
     if page is not None and request.method in ('GET', 'POST') and 'text/html' in request.headers.get('Accept', '') and not request.path.startswith('/runner/'):
         made: web.Response = page(request, status, words)

@@ -1,5 +1,5 @@
-"""A leg that `act` (nektos/act) runs in place of this runner: a workflow of this one job and this one combination, over a
-checkout of its commit."""
+"""A leg that `act` (nektos/act) runs in place of this runner: a workflow of this one job and this one combination,
+over a checkout of its commit."""
 from __future__ import annotations
 
 import json

@@ -45,8 +45,10 @@ def engine() -> str | None:
     """docker or podman, where it is there and answers; None otherwise."""
     for name in ('docker', 'podman'):
         program = shutil.which(name)
-        if program and not subprocess.run([program, 'version'], capture_output=True, timeout=60, check=False).returncode:
-            return program
+        if program:
+            done = subprocess.run([program, 'version'], capture_output=True, timeout=60, check=False)
+            if not done.returncode:
+                return program
     return None
 
 
@@ -62,7 +64,8 @@ def described(said: Any) -> Image:
         if not isinstance(said.get(name) or kind(), kind):
             raise NoContainer(f'its {name} is of the wrong kind')
     return Image(said['image'], said.get('env') or {}, tuple(said.get('volumes') or ()),
-                 tuple(shlex.split(said.get('options') or '')), tuple(said.get('ports') or ()), said.get('credentials') or {})
+                 tuple(shlex.split(said.get('options') or '')), tuple(said.get('ports') or ()),
+                 said.get('credentials') or {})
 
 
 def noted() -> list[list[str]]:
@@ -83,8 +86,8 @@ def note(kind: str, program: str, name: str) -> None:
 def remove_left() -> None:
     """Removes the containers, and then the network, that a leg has left."""
     for kind, program, name in sorted(noted()):
-        words = [['kill', name], ['rm', '--force', '--volumes', name]] if kind == 'container' else [['network', 'rm', name]]
-        for each in words:
+        of_container = [['kill', name], ['rm', '--force', '--volumes', name]]
+        for each in of_container if kind == 'container' else [['network', 'rm', name]]:
             subprocess.run([program, *each], capture_output=True, timeout=300, check=False)
     with contextlib.suppress(FileNotFoundError):
         os.remove(NOTE)
@@ -101,7 +104,8 @@ class Engine:
 
     def ask(self, *words: str, given: str | None = None) -> str:
         """What the engine prints."""
-        done = subprocess.run([self.program, *words], capture_output=True, text=True, timeout=1800, check=False, input=given)
+        done = subprocess.run([self.program, *words], capture_output=True, text=True, timeout=1800, check=False,
+                              input=given)
         if done.returncode:
             raise NoContainer(f'{os.path.basename(self.program)} {words[0]}: {done.stderr.strip()}')
         return done.stdout
@@ -146,17 +150,18 @@ class Container:
     def words(self, words: Sequence[str], folder: str, env: Mapping[str, str], note_path: str) -> list[str]:
         """The words by which a process runs in the container. It notes its number there, for signals."""
         names = [word for name in env for word in ('--env', name)]
-        return [self.by.program, 'exec', '--workdir', folder, *names, self.name, 'sh', '-c', 'echo $$ > "$0"; exec "$@"',
-                note_path, *words]
+        return [self.by.program, 'exec', '--workdir', folder, *names, self.name,
+                'sh', '-c', 'echo $$ > "$0"; exec "$@"', note_path, *words]
 
     def tell(self, note_path: str, number: int) -> None:
         """Sends a signal to a process in it."""
-        subprocess.run([self.by.program, 'exec', self.name, 'sh', '-c', f'kill -{int(number)} "$(cat "$0")"', note_path],
-                       capture_output=True, timeout=60, check=False)
+        words = ['exec', self.name, 'sh', '-c', f'kill -{int(number)} "$(cat "$0")"', note_path]
+        subprocess.run([self.by.program, *words], capture_output=True, timeout=60, check=False)
 
     def kill(self) -> None:
         """Ends all that runs in it."""
-        subprocess.run([self.by.program, 'restart', '--time', '0', self.name], capture_output=True, timeout=60, check=False)
+        words = ['restart', '--time', '0', self.name]
+        subprocess.run([self.by.program, *words], capture_output=True, timeout=60, check=False)
 
     def empty(self, folder: str) -> None:
         """Removes what is in a folder, as the user of the container: this user may not."""

@@ -6,7 +6,8 @@ import hashlib
 import os
 from typing import Any, Mapping
 
-from acts_workflow.expressions import (FUNCTIONS, Scope, asks_status, call, evaluated, has_open_braces, parts, read, whole)
+from acts_workflow.expressions import (FUNCTIONS, Scope, asks_status, call, evaluated, has_open_braces, parts, read,
+                                       whole)
 from acts_workflow.values import Fault, Known, Unknown, Value, text_of, truth
 
 Contexts = Mapping[str, Any]
@@ -41,8 +42,8 @@ def hash_of_files(folder: str, patterns: list[str]) -> str:
 
 
 class RunnerScope(Scope):
-    """What names stand for in a step. The status is that of the steps before; without one there are no status functions.
-    What the documentation names and nobody has given is a fault, unless it may be empty (`lax`)."""
+    """What names stand for in a step. The status is that of the steps before; without one there are no status
+    functions. What the documentation names and nobody has given is a fault, unless it may be empty (`lax`)."""
 
     def __init__(self, contexts: Contexts, status: str | None = None, folder: str = '.', lax: bool = False) -> None:
         super().__init__(contexts)

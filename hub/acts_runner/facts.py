@@ -1,5 +1,5 @@
-"""What is known of a leg besides its body: the number and the attempt of its run, how the jobs before it ended, and what
-of the context `github` the hub sets."""
+"""What is known of a leg besides its body: the number and the attempt of its run, how the jobs before it ended, and
+what of the context `github` the hub sets."""
 from __future__ import annotations
 
 import http.client
@@ -12,7 +12,8 @@ class Facts(Protocol):
     """Where facts are had."""
 
     def of(self, leg: Held) -> dict[str, Any]:
-        """`github`: members of the context; `results`: of jobs; `environment`: whether that of the job is free to use."""
+        """`github`: members of the context; `results`: of jobs; `environment`: whether that of the job is free to
+        use."""
 
 
 class NoFacts:

@@ -252,7 +252,8 @@ class HubPort:
         async def connect() -> aiohttp.ClientWebSocketResponse:
             client = await self.hub.session()
             url = f'{self.hub.url}/runner/v1/lines'
-            return await asyncio.wait_for(client.ws_connect(url, max_msg_size=MAX_ANSWER, ssl=self.hub.tls or False), 60)
+            opened = client.ws_connect(url, max_msg_size=MAX_ANSWER, ssl=self.hub.tls or False)
+            return await asyncio.wait_for(opened, 60)
         try:
             return HubSession(self.hub, self.hub.wait(connect()))
         except aiohttp.WSServerHandshakeError as fault:
@@ -291,7 +292,8 @@ class HubStorage:
     def __init__(self, job: Job) -> None:
         self.job, self.hub, self.claim = job, Hub.of(job.options), job.leg.claim
         leg = job.leg
-        self.leg = {'run': leg.run, 'attempt': job.facts.get('attempt') or 0, 'job': leg.job, 'leg': leg.leg, 'lease': leg.lease}
+        self.leg = {'run': leg.run, 'attempt': job.facts.get('attempt') or 0, 'job': leg.job, 'leg': leg.leg,
+                    'lease': leg.lease}
 
     def ask(self, method: str, kind: str, more: str = '', *, params: Sequence[tuple[str, str]] = (),
             data: bytes | None = None, file: str | None = None, to: str | None = None) -> Answer:

@@ -105,8 +105,8 @@ class Job:
         self.frame, self.env, self.path = Frame(self.body.get('inputs') or {}), dict[str, str](), list[str]()
         self.posts: list[Step] = []
         self.count, self.number, self.called = 0, 1, Counter[str]()
-        defaults = ((self.workflow.get('defaults') or {}).get('run') or {}, (self.job.get('defaults') or {}).get('run') or {})
-        self.defaults: dict[str, Any] = {**defaults[0], **defaults[1]}
+        self.defaults: dict[str, Any] = {name: value for of in (self.workflow, self.job)
+                                         for name, value in ((of.get('defaults') or {}).get('run') or {}).items()}
         self.shell = self.defaults.get('shell')
         self.asked, self.clock = asked, Clock(asked, MINUTES)
         self.container: container.Container | None = None
@@ -116,8 +116,8 @@ class Job:
         """The context `github`: of the body, of the hub, and of this runner."""
         body = self.body.get('github') or {}
         return {**(self.facts.get('github_defaults') or {}), **body, 'repository': self.body['repo'],
-                'workflow': self.workflow.get('name') or self.body['path'], 'run_id': self.leg.run, 'job': self.name, 'action': '__run',
-                'workspace': self.workspace, 'event_path': os.path.join(self.temp, 'event.json'),
+                'workflow': self.workflow.get('name') or self.body['path'], 'run_id': self.leg.run, 'job': self.name,
+                'action': '__run', 'workspace': self.workspace, 'event_path': os.path.join(self.temp, 'event.json'),
                 **(self.facts.get('github') or {})}
 
     def stores(self) -> tuple[Storage | None, Caches | None]:
@@ -160,7 +160,8 @@ class Job:
         github = {**self.github, **({'action_path': frame.place} if frame.place else {})}
         needs = {} if self.needs is None else {'needs': self.needs}
         return {**needs, 'github': github, 'inputs': frame.inputs, 'vars': self.body.get('vars') or {},
-                'matrix': self.matrix, 'secrets': self.secrets, 'steps': frame.steps, 'env': self.env if env is None else env,
+                'matrix': self.matrix, 'secrets': self.secrets, 'steps': frame.steps,
+                'env': self.env if env is None else env,
                 'strategy': {'fail-fast': True, **strategy, **(self.facts.get('strategy') or {}),
                              'job-index': int(self.leg.leg)},
                 'job': self.context_job(frame), 'runner': self.context_runner()}
@@ -169,13 +170,14 @@ class Job:
         """The context `job`."""
         network = self.services[0].by.network if self.services else self.container.by.network if self.container else ''
         inside = {'container': {'id': self.container.name, 'network': network}} if self.container else {}
-        return {'status': self.status(frame), **inside, 'services': {each.label: each.context() for each in self.services}}
+        services = {each.label: each.context() for each in self.services}
+        return {'status': self.status(frame), **inside, 'services': services}
 
     def context_runner(self) -> dict[str, Any]:
         """The context `runner`."""
         machine, above = platform.machine(), os.path.dirname(self.workspace)
-        return {'os': 'Linux', 'arch': ARCHITECTURES.get(machine, machine), 'name': self.options.name, 'temp': self.temp,
-                'tool_cache': self.tool_cache, 'workspace': above, 'environment': 'self-hosted',
+        return {'os': 'Linux', 'arch': ARCHITECTURES.get(machine, machine), 'name': self.options.name,
+                'temp': self.temp, 'tool_cache': self.tool_cache, 'workspace': above, 'environment': 'self-hosted',
                 **({'debug': '1'} if self.is_debug() else {})}
 
     def is_debug(self) -> bool:
@@ -201,9 +203,11 @@ class Job:
     def environment(self, frame: Frame, env: Mapping[str, str], files: Files) -> dict[str, str]:
         """All variables of a step. In a container those of this machine have no place."""
         outside = {} if self.container else {name: value for name, value in os.environ.items() if name not in HIDDEN}
-        made: dict[str, str] = {**outside, **env, **self.given(frame), **files.paths, **({'CI': env['CI']} if 'CI' in env else {})}
+        made: dict[str, str] = {**outside, **env, **self.given(frame), **files.paths,
+                                **({'CI': env['CI']} if 'CI' in env else {})}
         if self.path or not self.container:
-            made['PATH'] = ':'.join([*reversed(self.path), made.get('PATH') or (self.container.path if self.container else '')])
+            last = made.get('PATH') or (self.container.path if self.container else '')
+            made['PATH'] = ':'.join([*reversed(self.path), last])
         return {name: value.replace('\0', '') for name, value in made.items()}
 
     def status(self, frame: Frame) -> str:
@@ -225,7 +229,8 @@ class Job:
 
     def set_up(self) -> list[str]:
         """Makes what steps need. Gives what can't be done, in words: then no step runs."""
-        self.log.quiet(f'runner {self.options.full_name}, machine {platform.node()}, {platform.system()} {platform.machine()}')
+        machine = f'{platform.node()}, {platform.system()} {platform.machine()}'
+        self.log.quiet(f'runner {self.options.full_name}, machine {machine}')
         for folder in (self.workspace, self.temp):
             remove(folder)
             os.makedirs(folder)
@@ -250,7 +255,8 @@ class Job:
         self.number += 1
         self.log.mark(step=self.number, name='Complete job', begins=True)
         result = self.hand_on()
-        self.log.mark(step=self.number, ends=True, outcome='success' if result == self.status(self.frame) else 'failure')
+        outcome = 'success' if result == self.status(self.frame) else 'failure'
+        self.log.mark(step=self.number, ends=True, outcome=outcome)
         return result
 
     def hand_on(self) -> str:
@@ -318,10 +324,12 @@ class Job:
         self.log.mark(step=self.number, ends=True, **result)
 
     def action_of(self, step: Step) -> str:
-        """`github.action`: the id of a step, else `__run` or the name of its action, with a number from the second on."""
+        """`github.action`: the id of a step, else `__run` or the name of its action, with a number from the second
+        on."""
         if step.get('id'):
             return str(step['id'])
-        name = '__' + re.sub('[^A-Za-z0-9-]+', '_', str(step['uses']).partition('@')[0]).strip('_') if step.get('uses') else '__run'
+        action = str(step.get('uses') or 'run').partition('@')[0]
+        name = '__' + re.sub('[^A-Za-z0-9-]+', '_', action).strip('_')
         self.called[name] += 1
         return name if self.called[name] == 1 else f'{name}_{self.called[name]}'
 
@@ -385,7 +393,8 @@ class Job:
         outputs.update(builtin.run(self, given, self.caller(step, frame, env, folder)))
         post = builtin.post(self, given, outputs)
         if post:
-            self.posts.append({'name': f'Post {self.title(step, frame)}', 'if': 'success()', 'after': post, 'frame': frame})
+            self.posts.append({'name': f'Post {self.title(step, frame)}', 'if': 'success()', 'after': post,
+                               'frame': frame})
         return 'success'
 
     def step_folder(self) -> str:
@@ -427,13 +436,15 @@ class Job:
         """Runs a step of `run`."""
         shell = self.text(step.get('shell', None if frame.place else self.shell), frame, env) or None
         words = shell_words(shell, inside=self.container is not None)
-        script, text = os.path.join(folder, 'script' + ENDINGS.get(shell or '', '.sh')), self.text(step['run'], frame, env)
+        text = self.text(step['run'], frame, env)
+        script = os.path.join(folder, 'script' + ENDINGS.get(shell or '', '.sh'))
         with open(script, 'w', encoding='utf-8') as file:
             file.write(text + '\n')
         self.announce(text, words, step, env)
         default = None if frame.place else self.defaults.get('working-directory')
         place = self.text(step.get('working-directory', default) or '.', frame, env)
-        return self.run_process([word.replace('{0}', script) for word in words], place, step, frame, env, outputs, folder)
+        words = [word.replace('{0}', script) for word in words]
+        return self.run_process(words, place, step, frame, env, outputs, folder)
 
     def announce(self, text: str, words: Sequence[str], step: Step, env: Mapping[str, str]) -> None:
         """Writes what is run, as GitHub's logs have it."""
@@ -506,10 +517,12 @@ class Job:
         before = {'if': action.runs.get('pre-if', 'always()'), 'node': {**node, 'file': 'pre'}}
         if action.runs.get('pre') and self.is_due(before, inner, env, self.status(frame)):
             self.perform(before, frame, env, {})
-        main = {'node': {**node, 'file': 'main'}, 'if': step.get('if', ''), 'timeout-minutes': step.get('timeout-minutes')}
+        main = {'node': {**node, 'file': 'main'}, 'if': step.get('if', ''),
+                'timeout-minutes': step.get('timeout-minutes')}
         return self.perform(main, frame, env, outputs)
 
-    def run_composite(self, action: Action, inputs: dict[str, str], env: Mapping[str, str], outputs: dict[str, str]) -> str:
+    def run_composite(self, action: Action, inputs: dict[str, str], env: Mapping[str, str],
+                      outputs: dict[str, str]) -> str:
         """Runs the steps of an action."""
         inner = Frame(inputs, action.folder)
         inner.env = {name: value for name, value in env.items() if self.env.get(name) != value}
@@ -524,7 +537,8 @@ class Job:
         action: Action = node['action']
         env = {**env, **node['env_of_inputs'], **{f'STATE_{name}': value for name, value in node['state'].items()}}
         words = ['node', os.path.join(action.folder, action.runs[node['file']])]
-        return self.run_process(words, '.', {**step, 'state': node['state']}, Frame({}, action.folder), env, outputs, folder)
+        inner = Frame({}, action.folder)
+        return self.run_process(words, '.', {**step, 'state': node['state']}, inner, env, outputs, folder)
 
 
 def annotation(message: str) -> dict[str, Any]:
@@ -551,8 +565,8 @@ def environment_of(job: Mapping[str, Any]) -> str:
 
 
 def secrets_in(path: str | None, environment: str) -> dict[str, str]:
-    """The secrets of this runner: a JSON object of texts, in a file that nobody else may read. Its member `environments`
-    may have more for jobs of an environment."""
+    """The secrets of this runner: a JSON object of texts, in a file that nobody else may read. Its member
+    `environments` may have more for jobs of an environment."""
     if not path:
         return {}
     if os.stat(path).st_mode & 0o077:
@@ -573,7 +587,8 @@ def log_of(options: Options, leg: Held, facts: Mapping[str, Any], secrets_of_it:
     name = f'run-{leg.run}-{leg.job}-{leg.leg}-lease-{leg.lease}'
     whose = {'run': leg.run, 'attempt': facts.get('attempt'), 'job': leg.job, 'leg': leg.leg, 'lease': leg.lease,
              'claim': leg.claim} if options.hub else None
-    return Log(unused(options.logs or os.path.abspath('logs'), name, options.logs_kept), options.log_bytes, secrets_of_it, whose)
+    path = unused(options.logs or os.path.abspath('logs'), name, options.logs_kept)
+    return Log(path, options.log_bytes, secrets_of_it, whose)
 
 
 def refused(order: dict[str, Any], fault: Exception) -> str:

@@ -1,5 +1,6 @@
-"""Lines to the runner port of a service, over a stream to it or through a hub. A session is one stream of the service, so
-it is one process of the service and one history: no restore of the service's file comes between two lines of it."""
+"""Lines to the runner port of a service, over a stream to it or through a hub. A session is one stream of the
+service, so it is one process of the service and one history: no restore of the service's file comes between two lines
+of it."""
 from __future__ import annotations
 
 import contextlib

@@ -71,7 +71,8 @@ def parser() -> argparse.ArgumentParser:
     add_folders(made)
     add_places(made)
     add('--act', action='store_true', help='let act (nektos/act) run the legs')
-    add('--act-option', metavar='WORD', action='append', default=[], help='a word more for act, as --act-option=--pull=false')
+    add('--act-option', metavar='WORD', action='append', default=[],
+        help='a word more for act, as --act-option=--pull=false')
     return made
 
 
@@ -94,7 +95,8 @@ def add_names(made: argparse.ArgumentParser) -> None:
 def add_folders(made: argparse.ArgumentParser) -> None:
     """What it keeps, and where."""
     add = made.add_argument
-    add('--state', default=os.path.expanduser('~/.local/state/acts'), help='its folder NAME below this one has its state')
+    add('--state', default=os.path.expanduser('~/.local/state/acts'),
+        help='its folder NAME below this one has its state')
     add('--work', help='a folder, of another file system if you can, for what steps write (that of the state)')
     add('--logs', help='the folder for a log of each leg (logs, beside the state)')
     add('--log-bytes', type=int, default=1 << 26, help='bytes of a log; what follows is left out (67108864)')
@@ -106,7 +108,8 @@ def add_folders(made: argparse.ArgumentParser) -> None:
 def add_places(made: argparse.ArgumentParser) -> None:
     """Where it finds what steps ask for."""
     add = made.add_argument
-    add('--mirrors', metavar='PLACE', help='where actions/checkout finds OWNER/NAME.git: a folder, or the head of a URL')
+    add('--mirrors', metavar='PLACE',
+        help='where actions/checkout finds OWNER/NAME.git: a folder, or the head of a URL')
     add('--push-to', metavar='URL', help='where a checkout pushes to, with {owner}/{repo} in it; nowhere without it')
     add('--actions', metavar='FOLDER', help='a folder with a repository OWNER/NAME.git for each action that steps use')
     add('--actions-from', metavar='URL', help='where actions are fetched by git, with {owner}/{repo} in it')

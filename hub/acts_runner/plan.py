@@ -17,8 +17,8 @@ from .steps import StepFailed, shell_words
 if TYPE_CHECKING:
     from .job import Job
 
-JOB = set('''name permissions needs if runs-on environment concurrency outputs env defaults steps timeout-minutes strategy
-continue-on-error container services'''.split())
+JOB = set('''name permissions needs if runs-on environment concurrency outputs env defaults steps timeout-minutes
+strategy continue-on-error container services'''.split())
 STEP = set('id if name uses run working-directory shell with env continue-on-error timeout-minutes'.split())
 DEPTH = 10  # of actions that use actions
 MAX_SERVICES = 20

@@ -19,7 +19,7 @@ from .lines import Port, Session, settle
 from .options import Options
 from .state import Held, State, Unusable
 
-SECONDS_OF_CANCEL = 330  # for the steps that run after a cancel, which have five minutes, and for the end of what they leave
+SECONDS_OF_CANCEL = 330  # for the steps that run after a cancel, which have five minutes, and for what they leave
 OUT_OF_TURN = 999_999_999
 
 T = TypeVar('T')
@@ -44,7 +44,8 @@ class Runner:
         print(f'{self.options.name}: {words}', file=sys.stderr, flush=True)
 
     def drain(self, *_: Any) -> None:
-        """The first SIGTERM lets it finish its leg, the second one ends it. Steps that run go on until its next life."""
+        """The first SIGTERM lets it finish its leg, the second one ends it. Steps that run go on until its next
+        life."""
         self.signals += 1
         if self.signals > 1:
             os._exit(128 + signal.SIGTERM)
@@ -117,15 +118,16 @@ class Runner:
     def note(self, claim: str, words: list[str], standing: str, body: bytes | None) -> None:
         """Keeps a leg before its steps begin."""
         number, when = int(claim.split()[2]), self.state.kept.present
-        leg = Held(words[1], words[2], words[3], words[4], words[5], claim, when, hashlib.sha256(body or b'').hexdigest())
+        digest = hashlib.sha256(body or b'').hexdigest()
+        leg = Held(words[1], words[2], words[3], words[4], words[5], claim, when, digest)
         self.state.answered(number)
         try:
             self.state.keep(leg=leg, result=None if when == present() and body else 'failure')
         except OSError as fault:  # not begun, since nobody would know of it later
             line = f'DONE {self.state.name} {number + 1} {leg.lease} failure'
             answer = self.settle(lambda session: session.ask(line))
-            raise Unusable(f'run {leg.run} {leg.job} {leg.leg} failure: {answer}, since its state can\'t be kept: {fault}') \
-                from None
+            raise Unusable(f'run {leg.run} {leg.job} {leg.leg} failure: {answer}, since its state can\'t be kept: '
+                           f'{fault}') from None
         self.standing, self.body = standing, body
 
     def rest(self) -> bool:
@@ -155,8 +157,8 @@ class Runner:
                 self.state.keep(line=None, leg=leg, result='failure')
                 return
         self.state.keep(line=None)
-        raise Unusable(f'{self.state.name} has a lease of which its folder knows nothing: once nothing of it runs, report it '
-                       f'lost (POST /runners/{self.state.name}/lost)')
+        raise Unusable(f'{self.state.name} has a lease of which its folder knows nothing: once nothing of it runs, '
+                       f'report it lost (POST /runners/{self.state.name}/lost)')
 
     def finish(self, leg: Held) -> None:
         """Runs the steps of a leg, or takes up those that run, and reports how they ended."""
@@ -173,9 +175,9 @@ class Runner:
             self.state.keep(leg=None, result=None)
 
     def confirm(self, session: Session, leg: Held) -> tuple[str, bytes | None]:
-        """Whether the service has this leg as it was noted: the lease, the claim that it answers, and the body. All of it
-        over one stream, since the service's file may have been restored meanwhile, and then the same numbers may stand
-        for something else."""
+        """Whether the service has this leg as it was noted: the lease, the claim that it answers, and the body. All
+        of it over one stream, since the service's file may have been restored meanwhile, and then the same numbers
+        may stand for something else."""
         standing = session.ask(f'BEAT {self.state.name} {leg.lease}')
         if standing.startswith('refused') or leg.body is None:
             return standing, None
@@ -218,8 +220,8 @@ class Runner:
         return standing
 
     def report(self, leg: Held, result: str) -> None:
-        """Sends DONE until it is answered. If the lease is held, DONE is new to the service, and a success is reported of
-        nothing but the leg that was noted."""
+        """Sends DONE until it is answered. If the lease is held, DONE is new to the service, and a success is
+        reported of nothing but the leg that was noted."""
         number = self.state.last + 1
         standing, answer = self.settle(lambda session: self.reported(session, leg))
         if standing == 'another' or answer == 'refused 44':

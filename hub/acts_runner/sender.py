@@ -1,5 +1,5 @@
-"""Sends the logs of legs to the hub while they grow, and what was not sent in an earlier life. The hub says how much of a
-log it has: so a piece is neither lost nor kept twice, whichever side is killed."""
+"""Sends the logs of legs to the hub while they grow, and what was not sent in an earlier life. The hub says how much
+of a log it has: so a piece is neither lost nor kept twice, whichever side is killed."""
 from __future__ import annotations
 
 import json
@@ -133,7 +133,8 @@ class Sender(threading.Thread):
 
     def put(self, leg: dict[str, Any], kind: str, at: int, piece: bytes) -> int:
         """Sends a piece, and gives how far the hub is."""
-        answer = self.hub.ask('PUT', place_of(leg, kind), params=[('offset', str(at))], claim=leg['claim'], data=piece).json()
+        params = [('offset', str(at))]
+        answer = self.hub.ask('PUT', place_of(leg, kind), params=params, claim=leg['claim'], data=piece).json()
         if not isinstance(answer, dict) or not isinstance(answer.get('size'), int):
             raise Away('the hub does not say how far it is')
         return int(answer['size'])
@@ -155,7 +156,8 @@ class Sender(threading.Thread):
                  {'complete': True, 'result': 'failure', 'lost': True, **end}]
         whole = read_text(path + '.marks')
         with open(path + '.marks', 'a', encoding='utf-8') as file:
-            file.write(('' if whole.endswith('\n') or not whole else '\n') + ''.join(json.dumps(mark) + '\n' for mark in marks))
+            file.write('' if whole.endswith('\n') or not whole else '\n')
+            file.writelines(json.dumps(mark) + '\n' for mark in marks)
 
     def note_sent(self, path: str, words: str) -> None:
         """Notes that nothing is to be sent any more."""
@@ -168,6 +170,7 @@ class Sender(threading.Thread):
 
 
 def whole_lines(data: bytes) -> bytes:
-    """As many whole lines as a piece may have, at least one if there is one; a line without an end is left for later."""
+    """As many whole lines as a piece may have, at least one if there is one; a line without an end is left for
+    later."""
     end = data.rfind(b'\n', 0, PIECE) + 1 or data.find(b'\n') + 1
     return data[:end] if end or len(data) < LONGEST_MARK else data

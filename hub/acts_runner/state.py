@@ -135,9 +135,9 @@ class State:
         """The service does not take this number: its last one for this name is another. Everything that is known of a
         leg is forgotten. A number past all that this folder knows of is its own only if the service shows it."""
         if last > max(self.kept.most, self.kept.reported) and not is_own and not self.take_over:
-            raise Unusable(f'the service knows {self.name} at number {last}, and this folder at {self.kept.most}: either '
-                           'something else uses this name, or the folder is an old copy. Use an empty folder; if nothing '
-                           'else uses the name, add --take-over')
+            raise Unusable(f'the service knows {self.name} at number {last}, and this folder at {self.kept.most}: '
+                           'either something else uses this name, or the folder is an old copy. Use an empty folder; '
+                           'if nothing else uses the name, add --take-over')
         if last < number - 1:
             print(f'{self.name}: the service is at number {last} and this folder at {number}: its file was restored',
                   file=sys.stderr, flush=True)

@@ -1,4 +1,5 @@
-"""How a step's process runs: its shell, its variables and files, and its end, by itself, by a time limit or by a cancel."""
+"""How a step's process runs: its shell, its variables and files, and its end, by itself, by a time limit or by a
+cancel."""
 from __future__ import annotations
 
 import contextlib
@@ -125,8 +126,8 @@ class Inside:
 class Process:
     """The first process of a step. Those that it leaves running go on until the leg ends, unless the step is ended."""
 
-    def __init__(self, words: Sequence[str], folder: str, env: Mapping[str, str], log: Log, inside: Inside | None = None,
-                 step: int | None = None, debug: bool = False) -> None:
+    def __init__(self, words: Sequence[str], folder: str, env: Mapping[str, str], log: Log,
+                 inside: Inside | None = None, step: int | None = None, debug: bool = False) -> None:
         self.others, self.inside = own(), inside
         self.why: str | None = None
         self.told: int | None = None

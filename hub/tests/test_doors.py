@@ -82,9 +82,9 @@ class Behind:
             words, cwd=HUB, stdin=subprocess.DEVNULL, stdout=subprocess.PIPE, stderr=subprocess.PIPE, text=True,
             user=user, group=group, extra_groups=[] if user else None)
 
-    def connect(self, door: str) -> socket.socket:
+    def connect(self, door: str, seconds: float = 60) -> socket.socket:
         stream = socket.socket(socket.AF_UNIX)
-        stream.settimeout(20)
+        stream.settimeout(seconds)
         stream.connect(os.fspath(self.folder / door))
         return stream
 
@@ -435,3 +435,12 @@ def test_the_hub_refuses_sockets_that_all_may_open(place: Path) -> None:
         with pytest.raises(ConfigError):
             check_exposure(config)
         check_exposure(config_of({**tables, 'hub': {'open_loopback': True}}))
+
+
+def test_a_folder_of_something_else_is_left_alone(place: Path) -> None:
+    """Doors set the rights of their folder, so one with other things in it is refused, and stays as it is."""
+    (place / 'letter').write_text('private')
+    place.chmod(0o755)
+    words = f'acts-hub doors: {place} has other things in it (letter): doors need a folder of their own, whose rights they set\n'
+    assert Behind(place, 'true').words() == (1, words)
+    assert stat.S_IMODE(place.stat().st_mode) == 0o755

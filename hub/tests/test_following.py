@@ -103,6 +103,9 @@ def test_lines_of_a_later_service_say_all(tmp_path: pathlib.Path) -> None:
         async with StandIn() as stand:
             async with mirrored(stand, tmp_path) as mirror:
                 row = stand.add(1, status='queued', sha='ab' * 20, ref_name='main', actor='mona', title='A title')
+                stand.wholes[1] = {'jobs': [{'id': name, 'state': 'open', 'needs': [], 'max_parallel': None, 'legs': [
+                    {'leg': 0, 'combination': {}, 'state': 'ready', 'lease': None, 'runner': None, 'labels': ['linux'], 'group': None, 'waits_for': None}]}
+                    for name in ('build', 'deploy')]}
                 stand.say({'entry': 1, 'command': {**CREATED, 'delivery': 'd1'}, 'reply': 'created 1', 'at': 1000},
                           {'after': 1, **row, 'at': 1000},
                           *({'after': 1, 'run': 1, 'attempt': 1, 'job': job, 'leg': 0, 'state': 'ready', 'lease': None, 'runner': None, 'at': 1000}
@@ -123,9 +126,6 @@ def test_lines_of_a_later_service_say_all(tmp_path: pathlib.Path) -> None:
                           {'after': 4, **row, 'attempt': 2, 'status': 'queued', 'conclusion': None, 'at': 4000},
                           {**leg, 'after': 4, 'attempt': 2, 'state': 'ready', 'lease': None, 'runner': None, 'at': 4000})
                 stand.rows[1].update(attempt=2, status='queued', conclusion=None)
-                stand.wholes[1] = {'jobs': [{'id': name, 'state': 'open', 'needs': [], 'max_parallel': None, 'legs': [
-                    {'leg': 0, 'combination': {}, 'state': 'ready', 'lease': None, 'runner': None, 'labels': ['linux'], 'group': None, 'waits_for': None}]}
-                    for name in ('build', 'deploy')]}
                 await until(lambda: mirror.runs[1].row.attempt == 2)
                 assert mirror.runs[1].started_at == 4000 and mirror.runs[1].completed_at is None and mirror.runs[1].created_at == 1000
                 first = await mirror.whole(1, 1)

@@ -377,3 +377,12 @@ def test_what_a_token_may(desk: Desk) -> None:
     assert 'HTTP 401' in desk.says('api', 'graphql', '-f', 'query={viewer{login}}', token='wrong', status=1)
     made = desk.gh('run', 'list', env={'SSL_CERT_FILE': '/dev/null'})
     assert made.returncode == 1 and 'certificate' in made.stderr
+
+
+def test_what_can_t_be_had_says_why(desk: Desk) -> None:
+    desk.admit()
+    assert 'Secrets are with the runners' in desk.says('secret', 'list', status=1)
+    assert 'pull request is open is not known here' in desk.says('pr', 'list', status=1)
+    assert 'Pull requests are not kept here' in desk.says('api', f'repos/{REPO}/pulls', status=1)
+    assert 'changes nothing by GraphQL' in desk.says('api', 'graphql', '-f', 'query=mutation { a { b } }', status=1)
+    assert 'HTTP 404' in desk.says('run', 'view', 99999, status=1)

@@ -446,6 +446,40 @@ def test_a_new_run_comes_to_an_open_page(world: World, browser: Browser) -> None
     assert re.fullmatch(r'\d+ runs', browser.run('return document.getElementById("news").textContent'))
 
 
+HIDE = '''
+Object.defineProperty(document, "hidden", {configurable: true, get: () => arguments[0]});
+document.dispatchEvent(new Event("visibilitychange"));'''
+
+
+def hide(browser: Browser, is_hidden: bool) -> None:
+    browser.run(HIDE.replace('arguments[0]', 'true' if is_hidden else 'false'))
+
+
+def test_a_page_that_is_not_seen_holds_no_connection_and_goes_on_once_it_is(world: World, browser: Browser) -> None:
+    browser.open(f'/{world.stage.repository}/actions')
+    browser.is_live()
+    hide(browser, True)
+    jobs = {'build': {'runs-on': 'nobody-has-this', 'steps': [{'run': 'x'}]}}
+    run = world.stage.admit('While nobody looked', jobs=jobs)
+    world.stage.seen(run)
+    time.sleep(0.5)
+    assert 'While nobody looked' not in browser.text('#list')
+    hide(browser, False)
+    browser.until(lambda: 'While nobody looked' in browser.text('#list'), 'the run')
+    leg = world.legs['going on']
+    browser.open(leg.page)
+    browser.is_live()
+    leg.say('before it was hidden')
+    browser.until(lambda: 'before it was hidden' in browser.text('#steps'), 'the line before')
+    hide(browser, True)
+    leg.say('while it was hidden')
+    hide(browser, False)
+    leg.say('after it was hidden')
+    browser.until(lambda: 'after it was hidden' in browser.text('#steps'), 'the line after')
+    lines = [line for line in browser.text('#steps').split('\n') if 'it was hidden' in line]
+    assert lines == ['before it was hidden', 'while it was hidden', 'after it was hidden']
+
+
 def test_keys_reach_the_buttons_and_the_focus_is_seen(world: World, browser: Browser) -> None:
     run = world.stage.admit('Cancel me by keys',
                             jobs={'build': {'runs-on': 'nobody-has-this', 'steps': [{'run': 'x'}]}})
@@ -523,6 +557,11 @@ def test_a_wrong_token_does_not_sign_in(world: World, browser: Browser) -> None:
         browser.one('#token').send_keys('acts_wrong' + Keys.ENTER)
         browser.until(lambda: browser.has('[role=alert]'), 'it is refused')
         assert 'no token of this hub' in browser.text()
+        for path in '/sign-in', '/octo/hello/none', '/sign-in?back=/queue':
+            browser.look(NARROW, dark=True)
+            browser.open(path)
+            assert browser.overflow() <= 0 and browser.run(CONTRAST) == [] and len(browser.all('h1')) == 1, path
+        browser.look()
         browser.open('/sign-in?back=https://example.org/')
         assert browser.one('main [name=back]').get_attribute('value') == '/'
         browser.one('#token').send_keys(world.writer + Keys.ENTER)

@@ -2,6 +2,7 @@
 from __future__ import annotations
 
 import html
+import http.client
 import io
 import re
 import zipfile
@@ -9,7 +10,7 @@ from collections.abc import Iterator
 from urllib.parse import urlencode
 
 import pytest
-from harness import HubProcess, until
+from harness import HubProcess, Service, until
 from pages_stage import Stage
 
 from acts_hub.config import Retention
@@ -195,3 +196,42 @@ def test_annotations_summaries_and_artifacts_of_a_run(stage: Stage) -> None:
     assert stage.hub.get(f'{stage.page(run)}/artifacts/{artifact.id}',
                          stage.hub.token('other', 'read', repositories=('octo/other',))).status == 404
     assert stage.hub.get(f'{stage.page(other)}/artifacts/{artifact.id}', token).status == 404
+
+
+def test_pages_while_the_service_is_away(service: Service, hub: HubProcess) -> None:
+    stage = Stage(service, hub)
+    over, waits = stage.admit('It is over', jobs=NOBODY), stage.admit('It waits', jobs=NOBODY)
+    service.post(f'/runs/{over}/cancel')
+    token = hub.token('mona', 'admin')
+    stage.seen(over, 'completed')
+    stage.seen(waits)
+    assert hub.get(stage.page(over), token).status == hub.get(stage.page(waits), token).status == 200
+    service.kill()
+    answer = hub.get(BASE, token)
+    assert answer.status == 200 and 'It is over' in answer.text and 'It waits' in answer.text
+    for path in stage.page(over), stage.page(waits), '/queue', '/runners', '/groups', '/refused', '/':
+        answer = hub.get(path, token)
+        assert answer.status in (200, 503), path
+        assert answer.status == 200 or 'The hub does not reach the service at the moment' in answer.text, path
+    answer = hub.post(f'{stage.page(waits)}/cancel', '', token, FORM)
+    assert answer.status == 503 and 'does not reach the service' in answer.text
+
+
+def test_one_token_does_not_take_all_streams(hub: HubProcess) -> None:
+    fields = {'Authorization': f'Bearer {hub.token("mona", "read")}'}
+    held = []
+    try:
+        for _ in range(200):
+            connection = http.client.HTTPConnection('127.0.0.1', hub.port, timeout=30)
+            connection.request('GET', '/-/changes', headers=fields)
+            held.append((connection, connection.getresponse()))
+        assert {answer.status for _, answer in held} == {200}
+        assert hub.get('/-/changes', None, fields).status == 503
+        other = http.client.HTTPConnection('127.0.0.1', hub.port, timeout=30)
+        other.request('GET', '/-/changes', headers={'Authorization': f'Bearer {hub.token("hubot", "read")}'})
+        assert other.getresponse().status == 200
+        other.close()
+        assert hub.request('HEAD', '/-/changes', None, None, fields).status == 404
+    finally:
+        for connection, _ in held:
+            connection.close()

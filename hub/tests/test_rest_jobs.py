@@ -101,6 +101,17 @@ def test_numbers_of_jobs_that_are_none(stand: Stand, number: str) -> None:
         assert stand.get(f'/repos/octo/hello/actions/jobs/{number}{path}').status == 404
 
 
+def test_a_job_of_another_repository_is_not_told_of(stand: Stand) -> None:
+    stand.mirror.put(run_of(1))
+    stand.mirror.put(run_of(2, repository='octo/secret'))
+    del stand.mirror.wholes[2, 1]  # what it did is not known, which is not told either
+    for path in ('', '/logs'):
+        answer = stand.get(f'/repos/octo/hello/actions/jobs/{JobNumber(2, 1, 0, 0).value}{path}')
+        assert (answer.status, answer.json()['message']) == (404, 'Not Found')
+    answer = stand.get(f'/repos/octo/hello/check-runs/{JobNumber(2, 1, 0, 0).value}/annotations')
+    assert (answer.status, answer.json()['message']) == (404, 'Not Found')
+
+
 def test_numbers_of_jobs_are_taken_apart() -> None:
     number = JobNumber(100_000, 1000, 255, 254)
     assert JobNumber.of(number.value) == number and number.value < 2 ** 53

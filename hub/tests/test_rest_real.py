@@ -18,7 +18,9 @@ FIXED = ('', 'actions/runs', 'actions/workflows', 'actions/workflows/ci.yml/runs
          'commits/main/check-suites', 'actions/acts/refused', 'contents/.github/workflows/by_hand.yml')
 OF_A_RUN = ('', '/jobs', '/attempts/1/jobs', '/logs', '/approvals', '/pending_deployments', '/timing', '/artifacts')
 BODIES = (b'', b'{', b'[]', b'null', b'\xff', b'{"ref":"main","inputs":{"where":5}}', b'{"ref":"../../x"}',
-          b'{"ref":"main","inputs":{"where":"' + b'x' * 70000 + b'"}}', b'{"event_type":5}', b'{"event_type":"\\u0000"}')
+          b'{"ref":"main","inputs":{"where":"' + b'x' * 70000 + b'"}}', b'{"event_type":5}', b'{"event_type":"\\u0000"}',
+          b'{"ref":"\\ud800"}', b'{"event_type":"\\ud800"}', b'{"ref":"main","inputs":{"where":"\\ud800"}}',
+          b'{"ref":"main","inputs":{"\\ud800":"\\ud800"}}', b'{"state":"approved","comment":"\\ud800"}')
 
 
 def raw(there: Desk, method: str, target: str, body: bytes = b'') -> tuple[int, bytes]:
@@ -70,3 +72,13 @@ def test_bodies_made_of_anything(desk: Desk, runs: list[int]) -> None:
         for body in BODIES:
             status, head = raw(desk, 'POST', f'/api/v3{BASE}/{place}', body)
             assert 400 <= status < 500, (place, body[:50], head)
+
+
+def test_texts_that_are_no_unicode(desk: Desk, runs: list[int]) -> None:
+    for target in ('contents/.github/workflows/by_hand.yml?ref=%ed%a0%80', 'commits/%ed%a0%80/status', 'actions/runs?branch=%ed%a0%80',
+                   'actions/workflows/%ed%a0%80', 'contents/%ff', 'actions/caches?key=%ed%a0%80', 'actions/artifacts?name=%ff'):
+        status, head = raw(desk, 'GET', f'/api/v3{BASE}/{target}')
+        assert status < 500, (target, head)
+    for query in (b'{ repository(owner: \\"\\ud800\\", name: \\"x\\") { id } }', b'{ node(id: \\"\\ud800\\") { id } }', b'{ \\ud800 }'):
+        status, head = raw(desk, 'POST', '/api/graphql', b'{"query":"' + query + b'"}')
+        assert status in (200, 400), (query, head)

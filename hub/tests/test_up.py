@@ -172,6 +172,11 @@ def test_what_lacks_is_said(tmp_path: pathlib.Path) -> None:
     with tempfile.TemporaryDirectory(dir='/tmp') as folder:
         status, said = words(f'{folder}/c', '--acts', acts(), PATH='/nowhere')
         assert (status, said) == (1, 'acts-hub up: openssl: No such file or directory\n')
+    (tmp_path / 'home').mkdir(mode=0o700)
+    (tmp_path / 'home' / 'letter').write_text('private')
+    said = f'acts-hub up: {tmp_path}/home has other things in it: an empty folder is wanted, or that of an earlier start\n'
+    assert words(str(tmp_path / 'home'), '--acts', acts()) == (1, said)
+    assert stat.S_IMODE((tmp_path / 'home').stat().st_mode) == 0o700
     if os.geteuid() == 0:
         assert words(str(tmp_path / 'd'), '--acts', acts(), '--runner-user', 'no-such-user') == (1, 'acts-hub up: there is no user no-such-user\n')
 

@@ -61,6 +61,8 @@ def run(doors: Doors) -> int:
     ports = ports_of(doors.command)
     uid, gid = _owners(doors)
     doors.folder.mkdir(mode=0o700, parents=True, exist_ok=True)
+    if others := sorted(path.name for path in doors.folder.iterdir() if path.name not in (*DOORS, 'lock')):
+        raise NoDoors(f'{doors.folder} has other things in it ({others[0]}): doors need a folder of their own, whose rights they set')
     with _locked(doors.folder), contextlib.ExitStack() as made:
         os.chown(doors.folder, uid, gid)
         os.chmod(doors.folder, 0o700 if doors.group is None else 0o750)

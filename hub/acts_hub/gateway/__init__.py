@@ -34,7 +34,8 @@ class Gateway:
         self.environments = Environments(hub.database, hub.notes, hub.mirror)
         self.findings = Findings(hub.notes, hub.logs)
         self.passing = Passing(hub.view, hub.hooks, hub.database, hub.notes, hub.logs, self.environments)
-        self.sockets = Sockets(hub.runner_port, self.passing, int(table.get('connections_a_token', CONNECTIONS_A_TOKEN)),
+        self.sockets = Sockets(hub.runner_port, self.passing,
+                               int(table.get('connections_a_token', CONNECTIONS_A_TOKEN)),
                                float(table.get('silence', SECONDS_OF_SILENCE)))
         self.legs = Legs(hub.config, hub.view, hub.notes, self.passing.leases, hub.database, free_environments(hub))
         self.logs = Logs(self.legs, hub.logs, self.findings, hub.database)

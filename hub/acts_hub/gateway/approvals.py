@@ -25,14 +25,16 @@ class Approvals:
     def routes(self) -> list[web.RouteDef]:
         """The routes."""
         return [web.get(RUN + '/pending_deployments', self.pending, allow_head=False),
-                web.post(RUN + '/pending_deployments', self.review), web.get(RUN + '/approvals', self.given, allow_head=False)]
+                web.post(RUN + '/pending_deployments', self.review),
+                web.get(RUN + '/approvals', self.given, allow_head=False)]
 
     async def run(self, request: web.Request, right: Right) -> tuple[Identity, Whole]:
         """The run of an address, for somebody who may."""
         repository = f'{request.match_info["owner"]}/{request.match_info["repo"]}'
         identity = require(request, right, repository)
         text = request.match_info['run']
-        whole = await self.hub.view.run(int(text)) if text.isascii() and text.isdecimal() and 0 < len(text) < 10 else None
+        is_number = text.isascii() and text.isdecimal() and 0 < len(text) < 10
+        whole = await self.hub.view.run(int(text)) if is_number else None
         if whole is None or whole.row.repository.lower() != repository.lower():
             raise web.HTTPNotFound(text='Not Found')
         return identity, whole
@@ -43,8 +45,9 @@ class Approvals:
         approved = self.environments.is_approved(whole.row.run, whole.row.attempt)
         names = [] if approved else self.environments.waiting(whole)
         may = identity.may(Right.WRITE, whole.row.repository)
-        return web.json_response([{'environment': {'id': whole.row.run, 'name': name}, 'wait_timer': 0, 'wait_timer_started_at': None,
-                                   'current_user_can_approve': may, 'reviewers': []} for name in names])
+        return web.json_response([{'environment': {'id': whole.row.run, 'name': name}, 'wait_timer': 0,
+                                   'wait_timer_started_at': None, 'current_user_can_approve': may, 'reviewers': []}
+                                  for name in names])
 
     async def given(self, request: web.Request) -> web.Response:
         """Who has approved the present attempt."""

@@ -49,8 +49,8 @@ class Artifacts:
     async def list(self, request: web.Request) -> web.Response:
         """The artifacts of the run's attempt."""
         lease = await self.legs.leg(request)
-        found = [{'id': one.id, 'name': one.name, 'size': one.size} for one in self.store.list(lease.run, lease.attempt)]
-        return web.json_response(found)
+        found = self.store.list(lease.run, lease.attempt)
+        return web.json_response([{'id': one.id, 'name': one.name, 'size': one.size} for one in found])
 
     async def get(self, request: web.Request) -> web.StreamResponse:
         """The zip of one of them."""
@@ -60,7 +60,8 @@ class Artifacts:
         path = self.store.open(number) if found and (found.run, found.attempt) == (lease.run, lease.attempt) else None
         if found is None or path is None:
             raise web.HTTPNotFound(text='the run has no such artifact')
-        return web.FileResponse(path, headers={'Content-Type': 'application/zip', 'X-Acts-Digest': found.digest.rpartition(':')[2]})
+        return web.FileResponse(path, headers={'Content-Type': 'application/zip',
+                                               'X-Acts-Digest': found.digest.rpartition(':')[2]})
 
 
 async def filled(request: web.Request, upload: Upload, digest: str) -> Artifact:

@@ -23,7 +23,8 @@ PIECE = 1 << 18
 class Caches:
     """Requests about caches."""
 
-    def __init__(self, config: Config, legs: Legs, store: CacheStore, body: Callable[[int], Awaitable[bytes | None]]) -> None:
+    def __init__(self, config: Config, legs: Legs, store: CacheStore,
+                 body: Callable[[int], Awaitable[bytes | None]]) -> None:
         self.config, self.legs, self.store, self.body = config, legs, store, body
 
     async def scopes(self, lease: Lease) -> list[str]:
@@ -44,7 +45,8 @@ class Caches:
         keys: list[str] = request.query.getall('key', [])
         version = request.query.get('version', '')
         if not 0 < len(keys) <= MAX_KEYS or not all(map(KEY.fullmatch, keys)) or not VERSION.fullmatch(version):
-            raise web.HTTPBadRequest(text='a cache has 1 to 10 keys of 1 to 512 characters without a comma, and a version')
+            raise web.HTTPBadRequest(text='a cache has 1 to 10 keys of 1 to 512 characters without a comma, '
+                                          'and a version')
         return keys, version
 
     async def find(self, request: web.Request) -> web.Response:
@@ -62,7 +64,8 @@ class Caches:
         """The bytes of one of those that a run may read."""
         lease = await self.legs.leg(request)
         number, scopes = number_in(request, 'id'), await self.scopes(lease)
-        found = next((one for one in self.store.list(lease.repository) if one.id == number and one.scope in scopes), None)
+        there = self.store.list(lease.repository)
+        found = next((one for one in there if one.id == number and one.scope in scopes), None)
         path = self.store.open(number) if found else None
         if found is None or path is None:
             raise web.HTTPNotFound(text='there is no such cache')

@@ -1,5 +1,5 @@
-"""Environments with reviewers: a leg that waits for an approval asks for the label `approved-RUN`, which the gateway adds
-to claims once somebody with the right to write has approved the run's attempt."""
+"""Environments with reviewers: a leg that waits for an approval asks for the label `approved-RUN`, which the gateway
+adds to claims once somebody with the right to write has approved the run's attempt."""
 from __future__ import annotations
 
 import re
@@ -32,7 +32,7 @@ class Environments:
         """Whether a run that has not completed is approved."""
         for run, attempt in list(self.approved.items()):
             found = self.mirror.runs.get(run)
-            if found is not None and (found.row.attempt > attempt or found.row.attempt == attempt and found.row.status == 'completed'):
+            if found is not None and (found.row.attempt, found.row.status == 'completed') > (attempt, False):
                 del self.approved[run]
         return bool(self.approved)
 
@@ -61,8 +61,9 @@ class Environments:
     @staticmethod
     def waiting(whole: Whole) -> list[str]:
         """The jobs of a run that have legs which wait for an approval."""
-        return [job.id for job in whole.jobs if any(is_approval(leg.labels, whole.row.run) and leg.state in ('ready', 'waiting')
-                                                    for leg in job.legs)]
+        run = whole.row.run
+        return [job.id for job in whole.jobs
+                if any(leg.state in ('ready', 'waiting') and is_approval(leg.labels, run) for leg in job.legs)]
 
 
 def is_approval(labels: tuple[str, ...], run: int) -> bool:

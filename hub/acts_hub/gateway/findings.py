@@ -125,5 +125,6 @@ def annotation_of(given: Mapping[str, Any], step: int | None) -> dict[str, Any]:
     for name in ('message', 'title', 'path'):
         made[name] = given[name][:MAX_TEXT] if isinstance(given.get(name), str) else None
     level = given.get('annotation_level')
-    return {**made, 'annotation_level': level if level in LEVELS else 'notice', 'step': step, 'message': made['message'] or ''}
+    level = level if level in LEVELS else 'notice'
+    return {**made, 'annotation_level': level, 'step': step, 'message': made['message'] or ''}
 

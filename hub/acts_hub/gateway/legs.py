@@ -11,7 +11,7 @@ from aiohttp import web
 from ..access.identity import Identity, Right, require
 from ..config import Config
 from ..ledger.database import Database
-from ..ledger.logs import JOB
+from ..ledger.logs import JOB, OUTCOMES
 from ..ledger.notes import NoteStore
 from ..rest.numbers import number_of
 from ..service.models import Whole
@@ -53,13 +53,13 @@ class Legs:
         self.database, self.free = database, free
 
     async def lease(self, request: web.Request, held: bool = True) -> Lease:
-        """The lease that a request is about, if it is the runner's: 403 if not. `held`: it has to be so still; without it
-        it may have been reported already."""
+        """The lease that a request is about, if it is the runner's: 403 if not. `held`: it has to be so still;
+        without it it may have been reported already."""
         identity = require(request, Right.RUNNER)
         claim = claim_of(request, identity)
         run, number = number_in(request, 'run'), number_in(request, 'lease')
         found = self.leases.get(run, number)
-        if found is not None and found.claim != str(claim):  # only a claim that passes as a line takes the place of another
+        if found is not None and found.claim != str(claim):  # only a claim that passes as a line replaces another
             raise web.HTTPForbidden(text='the lease was got by another claim')
         if found is None:
             found = await self.leases.taken_up(run, number, claim)
@@ -99,8 +99,9 @@ class Legs:
         defaults = {'server_url': url, 'api_url': f'{url}/api/v3', 'graphql_url': f'{url}/api/graphql',
                 'repository_owner_id': str(number_of('user', owner.lower())),
                     'repository_id': str(number_of('repo', row.repository.lower())), 'repository_owner': owner,
-                    'workflow_ref': f'{row.repository}/{row.path}@{row.ref or ""}', 'retention_days': str(self.config.retention.logs_days)}
-        ended = {each.id: each.state for each in whole.jobs if each.state in ('success', 'failure', 'cancelled', 'skipped')}
+                    'workflow_ref': f'{row.repository}/{row.path}@{row.ref or ""}',
+                    'retention_days': str(self.config.retention.logs_days)}
+        ended = {each.id: each.state for each in whole.jobs if each.state in OUTCOMES}
         return {'attempt': lease.attempt, 'results': ended,
                 'outputs': {each.id: self.outputs(whole, each.id) for each in whole.jobs if each.id in job.needs},
                 'strategy': {'job-total': len(job.legs), 'max-parallel': job.max_parallel or len(job.legs)},
@@ -139,4 +140,5 @@ class Legs:
 async def written(database: Database) -> None:
     """Waits until what was noted is in the file, so that a runner may forget it; 503 if that takes too long."""
     if not await asyncio.get_running_loop().run_in_executor(None, database.flushed):
-        raise web.HTTPServiceUnavailable(text=database.fault or 'the ledger is not written', headers={'Retry-After': '5'})
+        words = database.fault or 'the ledger is not written'
+        raise web.HTTPServiceUnavailable(text=words, headers={'Retry-After': '5'})

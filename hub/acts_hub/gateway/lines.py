@@ -10,7 +10,8 @@ NUMBER = '0|[1-9][0-9]{0,8}'
 NAME = '[A-Za-z0-9_.-]{1,64}'
 LABEL = '[!-+.-~-]{1,64}'
 FORM = re.compile(rf'(?:CLAIM (?P<claims>{NAME}) (?P<number>{NUMBER}) (?P<labels>{LABEL}(?:,{LABEL})*)'
-                  rf'|DONE (?P<reports>{NAME}) (?P<turn>{NUMBER}) (?P<done>{NUMBER}) (?P<result>success|failure|cancelled)'
+                  rf'|DONE (?P<reports>{NAME}) (?P<turn>{NUMBER}) (?P<done>{NUMBER}) '
+                  '(?P<result>success|failure|cancelled)'
                   rf'|BEAT (?P<beats>{NAME}) (?P<lease>{NUMBER})|FETCH (?P<run>{NUMBER}))')
 LIFE = re.compile('life-[0-9a-f]{12}')
 APPROVED = re.compile('approved-[0-9]+', re.I)

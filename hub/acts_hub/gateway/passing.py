@@ -1,5 +1,5 @@
-"""What of a runner's lines passes to the service, and what of the answers comes back. A token names labels, the beginning
-of names, and repositories: neither a body nor a leg of another repository goes to its runners."""
+"""What of a runner's lines passes to the service, and what of the answers comes back. A token names labels, the
+beginning of names, and repositories: neither a body nor a leg of another repository goes to its runners."""
 from __future__ import annotations
 
 import asyncio
@@ -46,7 +46,8 @@ class Passing:
         self.turn = asyncio.Lock()
         self.narrowing = 0  # claims of tokens for some repositories that look at the queue, or wait for it
 
-    async def answer(self, identity: Identity, runner: str | None, text: str, lines: Lines) -> tuple[str | None, Answer]:
+    async def answer(self, identity: Identity, runner: str | None, text: str,
+                     lines: Lines) -> tuple[str | None, Answer]:
         """The name of the runner, and the answer to its line. Raises `Forbidden`, `TryAgain` and `Away`."""
         line = read_line(text)
         if line is None:
@@ -73,7 +74,8 @@ class Passing:
         return answer
 
     async def done(self, line: Done, lines: Lines) -> Answer:
-        """A report passes for the name that holds the lease, or as the last line once more, which gets its answer again."""
+        """A report passes for the name that holds the lease, or as the last line once more, which gets its answer
+        again."""
         async with self.in_turn():
             answer = await lines.ask(f'DONE {line.runner} {line.number} {line.lease} {line.result}')
         if answer.text == 'ok':
@@ -205,12 +207,13 @@ def leg_in(whole: Whole, lease: Lease) -> Leg | None:
 
 
 def narrowed(labels: tuple[str, ...], life: tuple[str, ...], own: list[Ready], foreign: list[Ready]) -> tuple[str, ...]:
-    """Labels that fit a leg of one's own, and no foreign one; if there are none, labels that fit no leg. The random label
-    alone fits none."""
+    """Labels that fit a leg of one's own, and no foreign one; if there are none, labels that fit no leg. The random
+    label alone fits none."""
     if not foreign:
         return labels
     for leg in own:
-        fewer = tuple(label for label in labels if label in life or label.lower() in {each.lower() for each in leg.labels})
+        wanted = {label.lower() for label in leg.labels}
+        fewer = tuple(label for label in labels if label in life or label.lower() in wanted)
         if not any(fits(each.labels, fewer) for each in foreign):
             return fewer
     return life or ('no-leg-of-this-repository',)

@@ -1,5 +1,5 @@
-"""`/runner/v1/lines`: lines of runners over a WebSocket, a text frame each; a session of the runner port stands behind each
-one, so that what a session of the service promises holds here too."""
+"""`/runner/v1/lines`: lines of runners over a WebSocket, a text frame each; a session of the runner port stands
+behind each one, so that what a session of the service promises holds here too."""
 from __future__ import annotations
 
 import asyncio
@@ -91,7 +91,8 @@ class Sockets:
 
     async def stop(self) -> None:
         """Closes all of them."""
-        await asyncio.gather(*(close(socket, AGAIN, 'the hub ends') for socket in list(self.sockets)), return_exceptions=True)
+        closing = [close(socket, AGAIN, 'the hub ends') for socket in list(self.sockets)]
+        await asyncio.gather(*closing, return_exceptions=True)
 
 
 def require_again(request: web.Request, identity: Identity) -> None:
@@ -117,6 +118,7 @@ def ends(answer: Answer) -> bool:
 async def close(socket: web.WebSocketResponse, code: int, words: str) -> None:
     """Closes a stream, with a reason."""
     try:
-        await asyncio.wait_for(socket.close(code=code, message=words.encode()[:MAX_REASON].decode(errors='ignore').encode()), 3)
+        message = words.encode()[:MAX_REASON].decode(errors='ignore').encode()
+        await asyncio.wait_for(socket.close(code=code, message=message), 3)
     except (asyncio.TimeoutError, ConnectionError, RuntimeError) as fault:
         say(f'a stream of a runner is not closed in time: {fault!r}')

@@ -201,6 +201,8 @@ async def _rows(site: Site, repository: str, runs: Sequence[Run]) -> list[RunRow
 
 async def to_runs(site: Site, request: web.Request) -> web.StreamResponse:
     """From the address of a repository to its runs."""
+    if request.match_info['owner'].startswith('-'):  # no owner is named so: it is an address of the hub's own
+        raise web.HTTPNotFound
     raise web.HTTPSeeOther(f'/{quote(request.match_info["owner"])}/{quote(request.match_info["repo"])}/actions')
 
 

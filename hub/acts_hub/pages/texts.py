@@ -11,11 +11,6 @@ _UNSEEN = re.compile('[\u061c\u200b\u200e\u200f\u202a-\u202e\u2060-\u2069\ufeff\
                      '\x00-\x08\x0b-\x1f\x7f-\x9f]')
 
 
-def has_unseen(text: str) -> bool:
-    """Whether a text has characters that are not seen where it is read."""
-    return _UNSEEN.search(text) is not None
-
-
 def cleaned(text: str) -> str:
     """A text that a person typed, without characters that are not seen."""
     return _UNSEEN.sub('', text)
@@ -45,8 +40,3 @@ def isolated(text: object) -> Markup:
 def shortened(text: str, most: int) -> str:
     """At most so many characters of a text, the last one an ellipsis if something is left out."""
     return text if len(text) <= most else text[:most - 1].rstrip() + '…'
-
-
-def first_line(text: str | None) -> str:
-    """The first line of a message."""
-    return (text or '').strip().partition('\n')[0].rstrip('\r')

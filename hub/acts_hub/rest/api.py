@@ -196,9 +196,9 @@ class Api:
 
     async def job(self, request: web.Request, repository: str, name: str = 'job') -> tuple[Run, JobView]:
         """The job of an address, and its run."""
-        run, view = await self.job_of(decimal(request.match_info[name]))
-        self.run_of(repository, run.row.run)
-        return run, view
+        value = decimal(request.match_info[name])
+        self.run_of(repository, JobNumber.of(value or 0).run)
+        return await self.job_of(value)
 
     async def job_of(self, value: int | None) -> tuple[Run, JobView]:
         """The job of a number, and its run."""
@@ -240,6 +240,7 @@ class Api:
             return {}
         try:
             found = json.loads(text)
+            json.dumps(found, ensure_ascii=False).encode()  # a half of a pair of surrogates is no Unicode
         except (ValueError, RecursionError):
             raise Fault(400, 'Problems parsing JSON') from None
         if not isinstance(found, dict):
@@ -248,7 +249,7 @@ class Api:
 
     # answers
 
-    def version_tag(self, request: web.Request) -> str:
+    def version_tag(self) -> str:
         """The entity tag of a list that changes with the runs alone."""
         return f'W/"{self._epoch}-{self.hub.mirror.version}"'
 

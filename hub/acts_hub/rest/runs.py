@@ -55,7 +55,7 @@ class RunRequests:
     def listed(self, request: web.Request, repository: str, path: str | None = None) -> web.Response:
         """A page of runs, newest first; its tag is that of the version of the mirror."""
         page = Page.of(request.query)
-        tag = self.api.version_tag(request)
+        tag = self.api.version_tag()
         runs = runs_of(self.hub.mirror, repository, request.query, path)
         return self.api.not_modified(request, tag) or self.api.page(
             request, page, 'workflow_runs', self.texts(request, page.newest(runs)), len(runs), tag)

@@ -180,7 +180,7 @@ class Changes:
         if is_old:                                          # the row was read later than this line was written
             return
         for earlier in range(row.attempt, line.attempt):
-            self._past(line.run, earlier)
+            self.past(self._batch, line.run, earlier)
         after = dataclasses.replace(row, attempt=line.attempt, status=line.status, conclusion=line.conclusion)
         self.mirror.put_row(after, known.facts if known.digest else None, known.digest, known.created_at, known.created_source)
         self._touch(line.run, at, is_end=line.status == 'completed')
@@ -197,12 +197,12 @@ class Changes:
         note.updated_at = at if at is not None else note.updated_at
         self._batch.keep_attempt(line.run, line.attempt)
 
-    def _past(self, run: int, attempt: int) -> None:
+    def past(self, batch: Batch, run: int, attempt: int) -> None:
         """An attempt is over since another began: what was seen of it is kept now."""
         note = self.mirror.attempts.note(run, attempt)
         if note.status != 'completed':
             note.status, note.conclusion, note.completed_at = 'completed', None, None
-        self._batch.keep_attempt(run, attempt)
+        batch.keep_attempt(run, attempt)
         self.looks.keep_past(run, attempt)
 
     def _leg_line(self, line: LegLine, at: int | None) -> None:

@@ -139,6 +139,9 @@ class Follower:
             say(f'run {row.run} is another one, or was restored: what was kept of it is dropped')
             batch.forget(row.run)
             kept = None
+        before = mirror.runs.get(row.run)
+        for earlier in range(before.row.attempt, row.attempt) if before is not None else ():
+            self.changes.past(batch, row.run, earlier)
         note = mirror.attempts.note(row.run, row.attempt)
         is_changed = (note.status, note.conclusion) != (row.status, row.conclusion)
         note.status, note.conclusion = row.status, row.conclusion

@@ -104,8 +104,8 @@ class Looks:
         if known is None or found is None:
             return
         attempt, before = found['attempt'], mirror.snapshots.get(run)
-        if before is not None and before['attempt'] < attempt:
-            self.keep_past(run, before['attempt'])
+        if attempt > known.row.attempt:                     # the lines of its end are still to come, and then it is looked at again
+            return
         batch = Batch(mirror)
         self._note_legs(batch, found, at)
         if found['status'] == 'completed':

@@ -20,6 +20,10 @@ LONGEST_FOLDER = 90
 """Bytes of the folder's path, so that sockets below it have paths that the kernel takes."""
 
 
+MARKS = ('hub.toml', 'runs.store', 'runs.store.new', 'runner')
+"""One of these is in a folder that an earlier start has made."""
+
+
 class Unfit(Exception):
     """The folder can't be made or used; the text says why."""
 
@@ -83,6 +87,16 @@ class Folder:
     def log(self, name: str) -> pathlib.Path:
         """What a child has said."""
         return self.path / f'{name}.log'
+
+
+def check_own(folder: Folder) -> None:
+    """Refuses a folder of something else, whose rights would change."""
+    try:
+        there = {path.name for path in folder.path.iterdir()}
+    except FileNotFoundError:
+        return
+    if there and not there & set(MARKS):
+        raise Unfit(f'{folder.path} has other things in it: an empty folder is wanted, or that of an earlier start')
 
 
 def prepare(folder: Folder, acts: str, listen: str, labels: str, owner: tuple[int, int] | None) -> Config:

@@ -23,7 +23,7 @@ from ..service.hooks import HookPort
 from ..service.view import ViewPort
 from . import example
 from .children import Child, Failed
-from .folder import REPOSITORY, Folder, Unfit, prepare
+from .folder import REPOSITORY, Folder, Unfit, check_own, prepare
 
 PACKAGES = pathlib.Path(__file__).resolve().parents[2]
 LABELS = 'linux'
@@ -57,6 +57,7 @@ def run(wishes: Wishes) -> int:
         acts = shutil.which(wishes.acts)
         if acts is None:
             raise Unfit(f'there is no program {wishes.acts}: --acts PATH or the variable ACTS names it; tests/trial makes one')
+        check_own(folder)
         user = _runner_user(wishes, folder)
         owner = _numbers(user)
         config = prepare(folder, os.path.abspath(acts), wishes.listen, LABELS, owner)

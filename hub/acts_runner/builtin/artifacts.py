@@ -87,7 +87,8 @@ class Upload(OfArtifacts):
         except StorageFault as fault:
             raise StepFailed(str(fault)) from None
         job.log.write(f'artifact {name}: {len(files)} files')
-        place = f'{job.github.get("server_url", "")}/{job.github["repository"]}/actions/runs/{job.leg.run}/artifacts/{found}'
+        top = f'{job.github.get("server_url", "")}/{job.github["repository"]}'
+        place = f'{top}/actions/runs/{job.leg.run}/artifacts/{found}'
         return {'artifact-id': found, **({'artifact-url': place} if job.options.hub else {})}
 
 

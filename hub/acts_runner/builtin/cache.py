@@ -20,7 +20,8 @@ class Caches(Protocol):
     """Where caches are kept."""
 
     def restore(self, keys: list[str], version: str, path: str) -> str | None:
-        """Puts the archive of the first key that is found, or that begins with a later one, at a path, and gives its key."""
+        """Puts the archive of the first key that is found, or that begins with a later one, at a path, and gives its
+        key."""
 
     def has(self, key: str, version: str) -> bool:
         """Whether there is a cache of this very key in the scope of this run."""
@@ -52,8 +53,8 @@ def keys_of(given: Mapping[str, str]) -> list[str]:
 
 def found(workspace: str, paths: list[str]) -> set[str]:
     """What is at the paths."""
-    return {os.path.normpath(name) for path in paths
-            for name in glob.glob(os.path.join(workspace, os.path.expanduser(path)), recursive=True, include_hidden=True)}
+    full = [os.path.join(workspace, os.path.expanduser(path)) for path in paths]
+    return {os.path.normpath(name) for path in full for name in glob.glob(path, recursive=True, include_hidden=True)}
 
 
 def roots(workspace: str) -> dict[str, str]:
@@ -72,7 +73,8 @@ def place_of(name: str, workspace: str) -> str | None:
 def pack(workspace: str, paths: list[str], archive: str) -> bool:
     """Makes an archive of what is at the paths; whether there was anything."""
     names = found(workspace, [path for path in paths if not path.startswith('!')])
-    left = {place_of(name, workspace) for name in found(workspace, [path[1:] for path in paths if path.startswith('!')])}
+    left_out = found(workspace, [path[1:] for path in paths if path.startswith('!')])
+    left = {place_of(name, workspace) for name in left_out}
     with tarfile.open(archive, 'w:gz', compresslevel=1) as file:
         for name in sorted(names):
             place = place_of(name, workspace)
@@ -91,8 +93,8 @@ def unpack(workspace: str, archive: str) -> None:
             folder = folders.get(root)
             if not folder or '..' in rest.split('/') or rest.startswith('/') or member.isdev():
                 raise tarfile.TarError(f'{member.name} has no place here')
-            parent = os.path.realpath(os.path.dirname(os.path.join(folder, rest)))
-            if os.path.commonpath([parent, os.path.realpath(folder)]) != os.path.realpath(folder) and rest not in ('', '.'):
+            top, parent = os.path.realpath(folder), os.path.realpath(os.path.dirname(os.path.join(folder, rest)))
+            if os.path.commonpath([parent, top]) != top and rest not in ('', '.'):
                 raise tarfile.TarError(f'{member.name} is behind a link')
             if member.islnk():
                 member.linkname = os.path.join(folder, member.linkname.partition('/')[2])

@@ -108,8 +108,8 @@ class Repository:
 
     def named(self, ref: str) -> str:
         """The full name of a branch or tag at the mirror."""
-        done = subprocess.run(['git', 'ls-remote', *self.more, '--', self.url], capture_output=True, text=True, timeout=300,
-                              check=False, env={**os.environ, 'GIT_TERMINAL_PROMPT': '0'})
+        done = subprocess.run(['git', 'ls-remote', *self.more, '--', self.url], capture_output=True, text=True,
+                              timeout=300, check=False, env={**os.environ, 'GIT_TERMINAL_PROMPT': '0'})
         names = {line.split('\t')[1] for line in done.stdout.splitlines() if '\t' in line}
         wanted = (ref, f'refs/heads/{ref}', f'refs/tags/{ref}') if ref else ('HEAD',)
         found = next((name for name in wanted if name in names), None)

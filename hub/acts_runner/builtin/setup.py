@@ -25,8 +25,8 @@ def numbers(text: str) -> list[int]:
 
 
 def satisfies(version: str, wanted: str) -> bool:
-    """Whether a version is one of those that a text names: 20, 3.x, >=1.21, ^1.13, ~3.9, lts/*, or several of them by ||
-    or spaces."""
+    """Whether a version is one of those that a text names: 20, 3.x, >=1.21, ^1.13, ~3.9, lts/*, or several of them by
+    || or spaces."""
     if '||' in wanted:
         return any(satisfies(version, part) for part in wanted.split('||'))
     have = numbers(version)
@@ -77,8 +77,9 @@ class Setup(Builtin):
     def __init__(self, tool: Tool) -> None:
         self.tool = tool
         self.takes = frozenset({f'{tool.name}-version', f'{tool.name}-version-file', 'architecture', 'distribution'})
-        self.ignores = frozenset({'cache', 'cache-dependency-path', 'check-latest', 'token', 'java-package', 'update-environment',
-                                  'allow-prereleases', 'pip-version', 'pip-install', 'package-manager-cache'})
+        self.ignores = frozenset({'cache', 'cache-dependency-path', 'check-latest', 'token', 'java-package',
+                                  'update-environment', 'allow-prereleases', 'pip-version', 'pip-install',
+                                  'package-manager-cache'})
 
     def installed(self) -> Found | None:
         """The version that is installed."""
@@ -90,8 +91,8 @@ class Setup(Builtin):
         return Found(version[0], None) if version else None
 
     def cached(self, job: Job, architecture: str) -> list[Found]:
-        """The versions of the tool cache, the newest first: NAME/VERSION/ARCHITECTURE, with NAME/VERSION/ARCHITECTURE.complete
-        beside it."""
+        """The versions of the tool cache, the newest first: NAME/VERSION/ARCHITECTURE, with
+        NAME/VERSION/ARCHITECTURE.complete beside it."""
         top = os.path.join(job.tool_cache, self.tool.cached)
         versions = [name for name in (os.listdir(top) if os.path.isdir(top) else []) if re.match('[0-9]', name)
                     and os.path.exists(os.path.join(top, name, architecture + '.complete'))]
@@ -117,7 +118,8 @@ class Setup(Builtin):
         if installed:
             raise ValueError(f'{self.tool.name} {installed.version} is installed, and not {wanted}; the tool cache '
                              f'{job.tool_cache} has none for {architecture} that fits')
-        raise ValueError(f'{self.tool.name} is not installed, and the tool cache {job.tool_cache} has no {wanted} for {architecture}')
+        raise ValueError(f'{self.tool.name} is not installed, and the tool cache {job.tool_cache} has no {wanted} '
+                         f'for {architecture}')
 
     def check(self, job: Job, given: Mapping[str, Any]) -> None:
         """A ValueError for what it can't do. A version file is not there before the first step."""
@@ -139,7 +141,8 @@ class Setup(Builtin):
             job.path += [found.folder, os.path.join(found.folder, 'bin')]
             if self.tool.home:
                 job.env[self.tool.home] = found.folder
-        job.log.write(f'{self.tool.name} {found.version}, {"of " + found.folder if found.folder else "as it is installed"}')
+        whence = f'of {found.folder}' if found.folder else 'as it is installed'
+        job.log.write(f'{self.tool.name} {found.version}, {whence}')
         more = {'cache-hit': 'false'}
         if self.tool.name == 'python' and found.folder:
             more['python-path'] = os.path.join(found.folder, 'bin', 'python')
@@ -159,7 +162,8 @@ def version_in(job: Job, path: str) -> str:
         raise ValueError(f'{path}: {fault.strerror}') from None
     name = os.path.basename(path)
     forms = {'go.mod': r'^go\s+([0-9.]+)', 'go.work': r'^go\s+([0-9.]+)', 'package.json': r'"node"\s*:\s*"([^"]+)"',
-             '.tool-versions': r'^(?:nodejs|node|python|golang|java)\s+(\S+)', 'pyproject.toml': r'^requires-python\s*=\s*"([^"]+)"'}
+             '.tool-versions': r'^(?:nodejs|node|python|golang|java)\s+(\S+)',
+             'pyproject.toml': r'^requires-python\s*=\s*"([^"]+)"'}
     found = re.search(forms.get(name, r'^\s*(?:python-)?v?(\S+)'), text, re.M)
     if not found:
         raise ValueError(f'{path} names no version')

@@ -80,16 +80,38 @@ async function renew() {
     tell('off', 'no answer: what is shown may be older');
   }
   took = performance.now() - began;
-  setTimeout(() => { asking = false; if (again) { again = false; renew(); } }, Math.min(3000, Math.max(400, 4 * took)));
+  setTimeout(() => { asking = false; if (again) { again = false; renew(); } }, Math.min(3000, Math.max(150, 2 * took)));
+}
+
+// Listens to a stream of events while the page is seen: a browser has few connections to a host. `handlers` may say that it is over, by true.
+function listen(address, handlers, opened) {
+  let source = null, last = '', over = false;
+  const close = () => { source?.close(); source = null; };
+  const open = () => {
+    if (over || source || document.hidden) return;
+    source = new EventSource(last ? `${address.split('?')[0]}?from=${encodeURIComponent(last)}` : address);
+    source.addEventListener('open', opened);
+    source.addEventListener('error', () => tell('off', 'no connection: what is shown may be older'));
+    for (const [name, handler] of Object.entries(handlers)) {
+      source.addEventListener(name, event => {
+        last = event.lastEventId || last;
+        if (handler(event)) { over = true; close(); }
+      });
+    }
+  };
+  document.addEventListener('visibilitychange', () => { if (document.hidden) close(); else open(); });
+  addEventListener('pagehide', close);
+  addEventListener('pageshow', open);
+  open();
 }
 
 function follow(address) {
-  const source = new EventSource(address);
-  let opened = false;
-  source.addEventListener('open', () => { tell('on', 'live'); if (opened) renew(); opened = true; });
-  source.addEventListener('changed', renew);
-  source.addEventListener('error', () => tell('off', 'no connection: what is shown may be older'));
-  addEventListener('pagehide', () => source.close());
+  let isFirst = true;
+  listen(address, { changed: () => { renew(); } }, () => {
+    tell('on', 'live');
+    if (!isFirst) renew();
+    isFirst = false;
+  });
 }
 
 // ---- a log: windows of lines, and lines that come
@@ -155,22 +177,33 @@ function takeLines(step, fresh) {
 }
 
 function followLog(address) {
-  const source = new EventSource(address);
-  source.addEventListener('open', () => tell('on', 'live'));
-  source.addEventListener('lines', event => {
+  const lines = event => {
     const told = JSON.parse(event.data), step = stepOf(told.step);
-    if (!step) { renewSteps(); return; }
-    if (told.skipped) fill(step, '');
+    if (!step) renewSteps();
+    else if (told.skipped) fill(step, '');
     else if (step.dataset.filled === 'yes') takeLines(step, new DOMParser().parseFromString(told.html, 'text/html'));
-  });
-  source.addEventListener('steps', renewSteps);
-  source.addEventListener('end', () => { source.close(); tell('done', 'the job has ended'); renewSteps(); });
-  source.addEventListener('error', () => tell('off', 'no connection: the log goes on once there is one'));
-  addEventListener('pagehide', () => source.close());
+  };
+  const end = () => {
+    tell('done', 'the job has ended');
+    renewSteps();
+    return true;
+  };
+  listen(address, { lines, steps: () => { renewSteps(); }, end }, () => tell('on', 'live'));
 }
 
-// Steps that have begun or ended: their heads are taken from the page as it is now, lines stay.
-async function renewSteps() {
+// Steps that have begun or ended: their heads are taken from the page as it is now, lines stay. One look at a time.
+let looking = null, lookAgain = false;
+
+function renewSteps() {
+  if (looking) { lookAgain = true; return; }
+  lookAgain = false;
+  looking = lookAtSteps().catch(() => tell('off', 'no answer: what is shown may be older')).finally(() => {
+    looking = null;
+    if (lookAgain) renewSteps();
+  });
+}
+
+async function lookAtSteps() {
   const answer = await fetch(location.href, { cache: 'no-store', headers: { 'X-Live': '1' } });
   if (!answer.ok) return;
   const fresh = new DOMParser().parseFromString(await answer.text(), 'text/html');
