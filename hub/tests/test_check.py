@@ -9,7 +9,6 @@ from collections.abc import Callable
 import pytest
 from harness import HUB, PYTHON, acts
 
-pytestmark = pytest.mark.quick
 Check = Callable[..., tuple[int, list[str]]]
 CALLED = '''on: {workflow_call: {inputs: {tag: {type: string}}}}
 jobs:
@@ -45,6 +44,7 @@ jobs:
     assert check(text) == (0, ['no fault, on refs/heads/main'])
 
 
+@pytest.mark.quick
 def test_events_that_start_nothing(check: Check) -> None:
     text = '''on:
   push:
@@ -70,6 +70,7 @@ jobs:
     assert not any('pull_request_target' in line for line in check(text, '--no-runner', '--pull-request-target')[1])
 
 
+@pytest.mark.quick
 def test_what_the_service_refuses_has_its_line_and_what_to_write(check: Check) -> None:
     status, lines = check('''on: push
 jobs:

@@ -10,7 +10,6 @@ import pytest
 from harness import until
 from test_events import BY_HAND, ONE, Place
 
-pytestmark = pytest.mark.quick
 BROKEN = '{on: workflow_dispatch, jobs: {a: {runs-on: linux, if: needs.b.outputs.x}, b: {runs-on: linux}}}'
 TYPES = '{on: {repository_dispatch: {types: [deploy, undo]}}, jobs: {a: {runs-on: "${{ github.event.client_payload.where }}"}}}'
 AT = '/api/v3/repos/octo/hello'
@@ -41,6 +40,7 @@ def dispatch(place: Place, token: str, inputs: Any = None, workflow: str = 'by_h
     return answer.status, answer.json().get('message', '') if answer.body else ''
 
 
+@pytest.mark.quick
 def test_a_workflow_that_never_ran_is_started_with_its_defaults(place: Place, tokens: dict[str, str]) -> None:
     before = place.count()
     assert dispatch(place, tokens['write'], {'name': 'x'}) == (204, '')
@@ -88,6 +88,7 @@ def test_what_can_not_be_started(place: Place, tokens: dict[str, str]) -> None:
     assert place.refused()[0][:3] == ('workflow_dispatch', '.github/workflows/broken.yml', 26)
 
 
+@pytest.mark.quick
 def test_who_may_not(place: Place, tokens: dict[str, str]) -> None:
     before = place.count()
     for name, status in (('read', 403), ('other', 404), ('runner', 404)):

@@ -88,7 +88,6 @@ def test_kills_at_any_moment(place: Place) -> None:
     assert runs(place) == [(commit, name) for commit in commits for name in ('one.yml', 'two.yml')]
 
 
-@pytest.mark.quick
 def test_a_full_store_holds_events_back_and_says_so(tmp_path: pathlib.Path) -> None:
     """Over a part of the area new events wait: claims and reports of runs that go on still fit."""
     place = Place(tmp_path, wait=0.5, pause=0.5, held_over=0.1)
@@ -113,7 +112,6 @@ def test_a_full_store_holds_events_back_and_says_so(tmp_path: pathlib.Path) -> N
         place.end()
 
 
-@pytest.mark.quick
 def test_an_event_that_does_not_fit_is_refused_after_a_while_and_holds_up_no_other_repository(tmp_path: pathlib.Path) -> None:
     place = Place(tmp_path, wait=20, pause=0.5, full_limit=2, held_over=1.0)
     place.service.area = 12288
@@ -134,7 +132,6 @@ def test_an_event_that_does_not_fit_is_refused_after_a_while_and_holds_up_no_oth
         place.end()
 
 
-@pytest.mark.quick
 def test_a_fetch_that_hangs_is_ended_and_holds_up_no_other_repository(tmp_path: pathlib.Path) -> None:
     place = Place(tmp_path, wait=0.5, pause=0.5, fetch_limit=3)
     hangs = f'sleep 3600.{os.getpid()}'
@@ -166,7 +163,6 @@ def readable(path: pathlib.Path) -> bool:
         return False
 
 
-@pytest.mark.quick
 def test_a_commit_that_is_not_there_yet_lets_others_pass_and_comes_later(place: Place) -> None:
     pushed = place.repository.only({'one.yml': ONE})
     created_first = place.sender.send('push', pushed, 'c0')[0]
@@ -179,7 +175,6 @@ def test_a_commit_that_is_not_there_yet_lets_others_pass_and_comes_later(place: 
     assert [commit for commit, _ in runs(place)] == [pushed['after'], late['after']]
 
 
-@pytest.mark.quick
 def test_what_was_put_aside_is_listed_and_tried_again(place: Place) -> None:
     broken = place.repository.only({'one.yml': '{on: push, jobs: {one: {runs-on: linux, environment: nowhere}}}'})
     until(lambda: place.sender.send('push', broken, 'a1')[0] == 202)
@@ -193,7 +188,6 @@ def test_what_was_put_aside_is_listed_and_tried_again(place: Place) -> None:
     assert len(place.refused()) == 1  # the same delivery is noted once
 
 
-@pytest.mark.quick
 def test_a_full_disk_of_the_spool_is_said(place: Place) -> None:
     folder = place.hub.state / 'events/spool'
     folder.rename(folder.with_name('gone'))
@@ -203,3 +197,18 @@ def test_a_full_disk_of_the_spool_is_said(place: Place) -> None:
     assert place.sender.send('push', place.repository.push('refs/heads/main', 'x', {'src/x': ''}), 'd2')[0] == 202
     done(place)
     assert place.count() == 1
+
+
+def test_a_signed_payload_of_twenty_mebibytes_is_taken_in_part(tmp_path: pathlib.Path) -> None:
+    """Its run has what fits, and says what is left out."""
+    place = Place(tmp_path, wait=60)
+    try:
+        place.start()
+        pushed = place.repository.only({'one.yml': ONE})
+        commit = {'id': pushed['after'], 'message': 'm' * 1000}
+        run = created(place.sender.push({**pushed, 'commits': [commit] * 20000}))['one.yml']
+        body = place.body(run)
+        assert len(json.dumps(body)) < 70000 and body['left_out'] == 'addresses of the API, lists'
+        assert (body['github']['sha'], body['github']['event']['ref']) == (pushed['after'], 'refs/heads/main')
+    finally:
+        place.end()

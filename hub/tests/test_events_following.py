@@ -15,7 +15,6 @@ from harness import HubProcess, RunnerLines, request, until
 from repositories import created
 from test_events import ONE, Place
 
-pytestmark = pytest.mark.quick
 SECRET, TOKEN = b'hush', 'a-token'
 SKIPPED = '{name: Skipped, on: push, jobs: {one: {runs-on: linux, if: "false"}}}'
 NAMED = '{name: CI, on: [push, pull_request], jobs: {one: {runs-on: linux, steps: [{run: "true"}]}}}'
@@ -115,6 +114,7 @@ def told(tmp_path_factory: pytest.TempPathFactory) -> Iterator[Told]:
         made.end()
 
 
+@pytest.mark.quick
 def test_the_status_of_a_push_is_pending_and_then_how_it_ended(told: Told) -> None:
     """GitHub Docs, "Create a commit status": state, context, description, target_url."""
     pushed = told.repository.only({'ci.yml': NAMED, 'one.yml': ONE, 'skipped.yml': SKIPPED})
@@ -273,6 +273,7 @@ def test_a_leg_that_nobody_can_take_is_said_and_a_run_that_waits_too_long_is_can
         told.end()
 
 
+@pytest.mark.quick
 def test_unclaimable_by_tokens() -> None:
     from acts_hub.access.identity import Right
     from acts_hub.access.tokens import Token
