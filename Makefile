@@ -1,5 +1,10 @@
 # The two commands of a new machine: `make first-run` and `make test`. Both need `rt` on the PATH.
 
+.DEFAULT_GOAL := first-run
+
+# The hub: `make demo`, `make hub-test`, `make hub-packages`. ACTS of the environment is its program.
+include hub/targets.mk
+
 ACTS := crates/acts/out/acts
 
 .PHONY: first-run test prove names build install example serve-example bench bench-all gate sweep hostile compared crashes-over-a-file wrong-bodies tested-bodies definitions
@@ -105,6 +110,3 @@ definitions:
 # Processor minutes of the gate, by crate, in a fresh clone; with CRATES, of these and those below only.
 gate:
 	bench/gate
-
-# The hub: `make demo`, `make hub-test`, `make hub-packages`.
-include hub/targets.mk

@@ -2,7 +2,8 @@
 # PYTHON is Debian's: the packages of hub/packages are seen by that one alone.
 HUB_ROOT := $(abspath $(dir $(lastword $(MAKEFILE_LIST)))..)
 HUB_PYTHON ?= /usr/bin/python3
-HUB_ACTS ?= $(if $(filter environment% command%,$(origin ACTS)),$(abspath $(ACTS)),$(HUB_ROOT)/demo/acts)
+# (at once, since a makefile that includes this one may give ACTS a value of its own)
+HUB_ACTS := $(or $(HUB_ACTS),$(if $(filter environment% command%,$(origin ACTS)),$(abspath $(ACTS)),$(HUB_ROOT)/demo/acts))
 HUB_RUN := cd $(HUB_ROOT)/hub && PYTHONPATH=$(HUB_ROOT)/hub ACTS=$(HUB_ACTS)
 
 .PHONY: demo hub-packages hub-test hub-quick hub-typed hub-install
