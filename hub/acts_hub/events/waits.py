@@ -74,6 +74,7 @@ class Waits:
         """Looks at the legs that wait."""
         tokens = self.hub.access.tokens.all()
         present = {}
+        lacking: dict[tuple[int, int], dict[str, None]] = {}  # the labels of all legs of an attempt, each once
         for ready in queue:
             run = self.hub.mirror.runs.get(ready.run)
             if run is None:
@@ -82,8 +83,10 @@ class Waits:
             present[key] = self.first.get(key) or self.since(key)
             missing = unclaimable_labels(ready.labels, run.row.repository, tokens)
             if missing:
-                await self.say(ready.run, run.row.attempt, words_of(missing))
+                lacking.setdefault((ready.run, run.row.attempt), {}).update(dict.fromkeys(missing))
             await self.check_time(ready, present[key])
+        for (number, attempt), labels in lacking.items():
+            await self.say(number, attempt, words_of(tuple(labels)))
         self.first = present
         runs = {(key[0], key[3]) for key in present}
         self.said = {key: words for key, words in self.said.items() if key in runs}
