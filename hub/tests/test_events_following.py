@@ -1,6 +1,7 @@
 """What is told of runs: statuses of commits, notices, `workflow_run`, legs that nobody can take, runs that wait for too long."""
 from __future__ import annotations
 
+import asyncio
 import hashlib
 import hmac
 import http.server
@@ -8,6 +9,7 @@ import json
 import pathlib
 import threading
 from collections.abc import Iterator
+from types import SimpleNamespace
 from typing import Any
 
 import pytest
@@ -288,6 +290,27 @@ def test_unclaimable_by_tokens() -> None:
     assert unclaimable_labels(('linux', 'gpu'), 'octo/hello', [linux]) == ('gpu',)
     assert unclaimable_labels(('linux', 'windows'), 'octo/hello', [linux, windows]) == ('linux', 'windows')
     assert unclaimable_labels(('linux',), 'octo/hello', [token(('linux',), right=Right.ADMIN), token(('linux',), revoked=1)]) == ('linux',)
+
+
+@pytest.mark.quick
+def test_a_run_whose_legs_lack_several_labels_is_told_of_once(monkeypatch: pytest.MonkeyPatch) -> None:
+    """Two legs that lack different labels make one message, and the next looks at the same queue make none."""
+    from acts_hub.events import waits
+    from acts_hub.service.models import Ready
+
+    told: list[str] = []
+
+    async def say(self: waits.Waits, number: int, attempt: int, words: str) -> None:
+        if self.said.get((number, attempt)) != words:
+            self.said[number, attempt] = words
+            told.append(words)
+    monkeypatch.setattr(waits.Waits, 'say', say)
+    run = SimpleNamespace(row=SimpleNamespace(attempt=1, repository='octo/hello'))
+    hub = SimpleNamespace(access=SimpleNamespace(tokens=SimpleNamespace(all=list)), mirror=SimpleNamespace(runs={7: run}))
+    looked: Any = waits.Waits(SimpleNamespace(hub=hub, settings=SimpleNamespace(queue_timeout=0)))  # type: ignore[arg-type]
+    for _ in range(3):
+        asyncio.run(looked.look([Ready(7, 'a', 0, ('gpu',)), Ready(7, 'b', 0, ('windows', 'gpu'))]))
+    assert told == ['no runner has gpu, windows']
 
 
 def test_another_store_is_taken_up_without_a_word(tmp_path: pathlib.Path) -> None:
