@@ -23,13 +23,14 @@ $(HUB_ROOT)/demo/acts:
 hub-packages:
 	$(HUB_ROOT)/hub/packages
 
-# All of the hub's tests.
+# All of the hub's tests, on all processors: a file's tests go on in one process. TESTS='tests/NAME.py ..' plays some, HUB_JOBS=N with N processes.
+HUB_JOBS ?= $(shell nproc)
 hub-test: $(HUB_ACTS) hub-typed
-	$(HUB_RUN) $(HUB_PYTHON) -m pytest -q -rs $(TESTS)
+	$(HUB_RUN) $(HUB_PYTHON) -m pytest -q -rs -n $(HUB_JOBS) --dist loadfile $(TESTS)
 
 # The part that the gate plays: about a minute. Where a package lacks, it says so and leaves the tests out.
 hub-quick: $(HUB_ACTS)
-	@if $(HUB_ROOT)/hub/packages --check; then $(HUB_RUN) $(HUB_PYTHON) -m pytest -q -rs -m quick; else echo 'hub: these packages are not here, so the hub was not tested'; fi
+	@if $(HUB_ROOT)/hub/packages --check; then $(HUB_RUN) $(HUB_PYTHON) -m pytest -q -rs -n $(HUB_JOBS) --dist loadfile -m quick; else echo 'hub: these packages are not here, so the hub was not tested'; fi
 
 hub-typed:
 	cd $(HUB_ROOT)/hub && $(HUB_PYTHON) -m mypy --strict acts_hub acts_runner acts_workflow

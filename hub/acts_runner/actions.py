@@ -16,6 +16,7 @@ if TYPE_CHECKING:
 
 USES = re.compile(r'([\w-][\w.-]*)/([\w.-]+)((?:/[\w.-]+)*)@([\w./+-]+)')
 COMMIT = re.compile('[0-9a-f]{40}')
+PARTS = {'pre': 'pre-entrypoint', 'main': 'entrypoint', 'post': 'post-entrypoint'}  # of an action in a container
 
 
 @dataclass(frozen=True)
@@ -63,6 +64,20 @@ class Action:
     def inputs(self) -> dict[str, Any]:
         """Its inputs."""
         return self.said.get('inputs') or {}
+
+    def outputs(self) -> dict[str, Any]:
+        """The texts of its outputs, if it has steps."""
+        said = self.said.get('outputs') or {}
+        return {name: value.get('value', '') for name, value in said.items() if isinstance(value, dict)}
+
+    def part(self, name: str) -> Any:
+        """What it runs as `pre`, `main` or `post`."""
+        return self.runs.get(PARTS[name] if self.using == 'docker' else name)
+
+    def reference(self) -> dict[str, str]:
+        """What `github` has of an action that is of another repository."""
+        found = None if self.is_local else USES.fullmatch(self.uses)
+        return {'action_repository': f'{found[1]}/{found[2]}' if found else '', 'action_ref': found[4] if found else ''}
 
 
 def fetched_folder(job: Job, uses: str) -> str:

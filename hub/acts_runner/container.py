@@ -3,6 +3,7 @@ files of the runner's have the same paths in it as outside."""
 from __future__ import annotations
 
 import contextlib
+import functools
 import os
 import re
 import secrets
@@ -11,15 +12,41 @@ import shutil
 import subprocess
 import time
 from dataclasses import dataclass, field
-from typing import Any, Callable, Mapping, Sequence
+from typing import Any, Callable, Mapping, Protocol, Sequence
 
 NOTE = 'container'  # a file of the runner's folder that names what may be left
 SECONDS_OF_HEALTH = 300
 MEMBERS = {'image', 'env', 'volumes', 'options', 'ports', 'credentials'}
+# What the programs of the engines would follow themselves.
+FOLLOWED = set('''BUILDAH_FORMAT BUILDKIT_HOST CONTAINERS_CONF CONTAINERS_REGISTRIES_CONF CONTAINERS_STORAGE_CONF
+CONTAINER_CONNECTION CONTAINER_HOST CONTAINER_SSHKEY DOCKER_API_VERSION DOCKER_CERT_PATH DOCKER_CONFIG DOCKER_CONTEXT
+DOCKER_HOST DOCKER_TLS DOCKER_TLS_VERIFY GODEBUG HOME LD_LIBRARY_PATH LD_PRELOAD PATH REGISTRY_AUTH_FILE STORAGE_DRIVER
+STORAGE_OPTS TMPDIR XDG_CONFIG_HOME XDG_DATA_HOME XDG_RUNTIME_DIR'''.split())
 
 
 class NoContainer(ValueError):
     """Why there is no container, in words."""
+
+
+class Place(Protocol):
+    """Where a process of a step runs, if not beside the runner."""
+
+    def begun(self, words: Sequence[str], folder: str, env: Mapping[str, str]) -> tuple[list[str], dict[str, str]]:
+        """The words by which it is begun there, and the variables of the program of the engine."""
+
+    def tell(self, child: subprocess.Popen[bytes], number: int) -> None:
+        """Sends it a signal. The child is the program of the engine."""
+
+    def kill(self) -> None:
+        """Ends all that it has begun there."""
+
+
+def passed(env: Mapping[str, str]) -> tuple[list[str], dict[str, str]]:
+    """The words that give variables to what runs in a container, and the variables of the engine's program, which has
+    their values: in words all users of the machine could read them. What it would follow itself is in words."""
+    words = [word for name, value in env.items()
+             for word in ('--env', f'{name}={value}' if name in FOLLOWED else name)]
+    return words, {**os.environ, **{name: value for name, value in env.items() if name not in FOLLOWED}}
 
 
 @dataclass(frozen=True)
@@ -87,7 +114,7 @@ def remove_left() -> None:
     """Removes the containers, and then the network, that a leg has left."""
     for kind, program, name in sorted(noted()):
         of_container = [['kill', name], ['rm', '--force', '--volumes', name]]
-        for each in of_container if kind == 'container' else [['network', 'rm', name]]:
+        for each in of_container if kind == 'container' else [[kind, 'rm', name]]:
             subprocess.run([program, *each], capture_output=True, timeout=300, check=False)
     with contextlib.suppress(FileNotFoundError):
         os.remove(NOTE)
@@ -109,6 +136,16 @@ class Engine:
         if done.returncode:
             raise NoContainer(f'{os.path.basename(self.program)} {words[0]}: {done.stderr.strip()}')
         return done.stdout
+
+    def has_image(self, name: str) -> bool:
+        """Whether an image is here."""
+        done = subprocess.run([self.program, 'image', 'inspect', name], capture_output=True, timeout=300, check=False)
+        return not done.returncode
+
+    def look_at_health(self, name: str) -> None:
+        """Lets podman check a container's health: it does not do so by itself on a machine without systemd."""
+        if os.path.basename(self.program) == 'podman':
+            subprocess.run([self.program, 'healthcheck', 'run', name], capture_output=True, timeout=300, check=False)
 
     def make_network(self) -> None:
         """A network of the job's own, in which containers find one another by name."""
@@ -147,26 +184,36 @@ class Container:
         self.name = by.start(image, binds, ['--entrypoint', 'tail', image.image, '-f', '/dev/null'])
         self.path = by.ask('exec', self.name, 'sh', '-c', 'echo "$PATH"').strip()
 
-    def words(self, words: Sequence[str], folder: str, env: Mapping[str, str], note_path: str) -> list[str]:
-        """The words by which a process runs in the container. It notes its number there, for signals."""
-        names = [word for name in env for word in ('--env', name)]
-        return [self.by.program, 'exec', '--workdir', folder, *names, self.name,
-                'sh', '-c', 'echo $$ > "$0"; exec "$@"', note_path, *words]
-
-    def tell(self, note_path: str, number: int) -> None:
-        """Sends a signal to a process in it."""
-        words = ['exec', self.name, 'sh', '-c', f'kill -{int(number)} "$(cat "$0")"', note_path]
-        subprocess.run([self.by.program, *words], capture_output=True, timeout=60, check=False)
-
-    def kill(self) -> None:
-        """Ends all that runs in it."""
-        words = ['restart', '--time', '0', self.name]
-        subprocess.run([self.by.program, *words], capture_output=True, timeout=60, check=False)
-
     def empty(self, folder: str) -> None:
         """Removes what is in a folder, as the user of the container: this user may not."""
         subprocess.run([self.by.program, 'exec', self.name, 'sh', '-c', 'rm -rf "$0"/* "$0"/.[!.]*', folder],
                        capture_output=True, timeout=300, check=False)
+
+
+@dataclass(frozen=True)
+class InJob:
+    """The container of the job, for a process that notes its number in a file, for signals."""
+
+    container: Container
+    note: str
+
+    def begun(self, words: Sequence[str], folder: str, env: Mapping[str, str]) -> tuple[list[str], dict[str, str]]:
+        """The words by which it is begun in the container."""
+        given, own = passed(env)
+        return [self.container.by.program, 'exec', '--workdir', folder, *given, self.container.name,
+                'sh', '-c', 'echo $$ > "$0"; exec "$@"', self.note, *words], own
+
+    def ask(self, *words: str) -> None:
+        """Has the engine do something, whatever comes of it."""
+        subprocess.run([self.container.by.program, *words], capture_output=True, timeout=60, check=False)
+
+    def tell(self, child: subprocess.Popen[bytes], number: int) -> None:
+        """Sends it a signal, inside: the program of the engine passes on none."""
+        self.ask('exec', self.container.name, 'sh', '-c', f'kill -{int(number)} "$(cat "$0")"', self.note)
+
+    def kill(self) -> None:
+        """Ends all that runs in the container."""
+        self.ask('restart', '--time', '0', self.container.name)
 
 
 class Service:
@@ -179,12 +226,19 @@ class Service:
     def wait(self, is_over: Callable[[], bool]) -> None:
         """Waits until it is healthy, where its image or its options say how that is seen."""
         late = time.monotonic() + SECONDS_OF_HEALTH
-        form = '{{if .State.Health}}{{.State.Health.Status}}{{else}}{{.State.Status}}{{end}}'
-        while (found := self.by.ask('inspect', '--format', form, self.name).strip()) not in ('healthy', 'running'):
-            if found not in ('starting', 'created') or time.monotonic() > late or is_over():
-                raise NoContainer(f'{self.label} is {found}: {self.by.ask("logs", "--tail", "20", self.name).strip()}')
+        form = '{{.State.Status}} {{if .State.Health}}{{.State.Health.Status}}{{end}}'
+        while True:
+            found = self.by.ask('inspect', '--format', form, self.name).split()
+            state = found[-1] if found else ''
+            if state in ('healthy', 'running'):
+                return
+            if state not in ('starting', 'created') or 'exited' in found or time.monotonic() > late or is_over():
+                why = self.by.ask('logs', '--tail', '20', self.name).strip()
+                raise NoContainer(f'{self.label} is {" and ".join(found)}: {why}')
+            self.by.look_at_health(self.name)
             time.sleep(0.5)
 
+    @functools.cached_property
     def context(self) -> dict[str, Any]:
         """What `job.services` has of it."""
         ports: dict[str, str] = {}

@@ -4,21 +4,15 @@ from __future__ import annotations
 import glob
 import hashlib
 import os
-from typing import Any, Mapping
+from typing import Any, Iterator, Mapping
 
-from acts_workflow.expressions import (FUNCTIONS, Scope, asks_status, call, evaluated, has_open_braces, parts, read,
-                                       whole)
+from acts_workflow.expressions import (FUNCTIONS, Call, Context, Literal, Member, Node, Scope, asks_status, call,
+                                       evaluated, has_open_braces, nodes, parts, read, whole)
 from acts_workflow.values import Fault, Known, Unknown, Value, text_of, truth
 
-Contexts = Mapping[str, Any]
+from .documented import AVAILABLE, MEMBERS, WITH_FILES
 
-NAMES = {
-    'strategy': {'job-total', 'max-parallel'},
-    'runner': {'debug'},
-    'github': set('''action action_path action_ref action_repository actor actor_id api_url base_ref event event_name
-    event_path graphql_url head_ref job ref ref_name ref_protected ref_type repository repository_id repository_owner
-    repository_owner_id repositoryurl retention_days run_attempt run_id run_number server_url sha token triggering_actor
-    workflow workflow_ref workflow_sha workspace'''.split())}
+Contexts = Mapping[str, Any]
 
 
 class NotKnown(Fault):
@@ -57,7 +51,7 @@ class RunnerScope(Scope):
 
     def missing(self, context: str, name: str) -> Value:
         """What a member stands for that a context does not have."""
-        if not self.lax and name.lower() in NAMES.get(context, ()):
+        if not self.lax and name.lower() in MEMBERS.get(context, ()):
             raise NotKnown(f'{context}.{name} has no value here')
         return None
 
@@ -92,6 +86,29 @@ def found_in(text: str, scope: RunnerScope) -> Value:
             return value
         made.append(text_of(value))
     return ''.join(made)
+
+
+def nodes_in(value: Any, is_condition: bool = False) -> Iterator[Node]:
+    """All that the expressions of a text consist of."""
+    text = value if isinstance(value, str) else ''
+    texts = [part.text for part in parts(text) if part.node] if '${{' in text else [text] if is_condition else []
+    for each in texts:
+        yield from nodes(read(each)) if each.strip() else ()
+
+
+def check(value: Any, place: str, is_condition: bool = False) -> None:
+    """A ValueError for a context or a function that GitHub knows elsewhere, and not at this place of a workflow."""
+    for node in nodes_in(value, is_condition):
+        if isinstance(node, Context) and node.name not in AVAILABLE[place]:
+            raise ValueError(f'the context {node.name} has no value here, in {str(value).strip()[:200]}')
+        if isinstance(node, Call) and node.name == 'hashfiles' and place not in WITH_FILES:
+            raise ValueError(f'hashFiles() has a value in steps alone, in {str(value).strip()[:200]}')
+
+
+def names(value: Any, context: str, member: str) -> bool:
+    """Whether a text names a member of a context."""
+    return any(isinstance(node, Member) and node.of == Context(context) and isinstance(node.name, Literal)
+               and text_of(node.name.value).lower() == member for node in nodes_in(value))
 
 
 def value_of(value: Any, contexts: Contexts, status: str | None = None, folder: str = '.', lax: bool = False) -> Any:

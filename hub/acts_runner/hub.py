@@ -351,6 +351,16 @@ class HubStorage:
             made.extractall(folder)
         os.remove(archive)
 
+    def line_of(self, place: str) -> int | None:
+        """The line of a place in the file of the run's workflow; None if it is not known, or the hub is away."""
+        try:
+            path = place_of(self.leg, 'places')
+            found = self.hub.ask('GET', path, params=[('place', place)], claim=self.claim).json()
+        except (NotTaken, Away):
+            return None
+        line = found.get('line') if isinstance(found, dict) else None
+        return line if isinstance(line, int) else None
+
     def close(self) -> None:
         """Closes connections."""
         self.hub.close()

@@ -6,80 +6,46 @@ import json
 import os
 import platform
 import re
-import secrets
-import shutil
-import stat
 import sys
 import time
 from collections import Counter
-from dataclasses import dataclass, field
-from typing import Any, Iterable, Mapping, Sequence
+from dataclasses import replace
+from typing import Any, Iterable, Iterator, Mapping, Sequence
 
 from acts_workflow.values import text_of
 
-from . import act, container, expressions
+from . import act, contained, container, expressions
 from .actions import Action
 from .builtin import builtin_of
 from .builtin.base import Call, Post
 from .builtin.cache import Caches
+from .commands import annotation
+from .contained import InAction
+from .documented import VARIABLES
+from .folders import folders, remove
+from .frames import Frame, Step
 from .logs import Log, unused
+from .matchers import Matchers
 from .options import Options
+from .paths import Paths
 from .plan import Plan
+from .printed import Listener
+from .rights import environment_of, is_of_a_fork, secrets_in
 from .state import Held
-from .steps import ENDINGS, Cancelled, Clock, Files, Inside, Process, StepFailed, shell_words
+from .steps import ENDINGS, Cancelled, Clock, Files, Process, StepFailed, paths_in, shell_words
 from .storage import FolderStorage, Storage, StorageFault
+from .uses import Uses
 
 MINUTES = 360  # of a job that names none
+MAX_LINES = 20  # of refusals that are asked for
 ARCHITECTURES = {'x86_64': 'X64', 'aarch64': 'ARM64', 'armv7l': 'ARM'}
 HIDDEN = {'CREDENTIALS_DIRECTORY'}  # of systemd, in which the token of the runner is
-Step = dict[str, Any]
 
 
 def variables(values: Mapping[str, Any], prefix: str) -> dict[str, str]:
     """The members of an object, other than lists and objects, as variables for a step."""
     return {prefix + re.sub(r'\W', '_', name).upper(): text_of(value) for name, value in values.items()
             if not isinstance(value, (dict, list))}
-
-
-def remove(folder: str) -> None:
-    """Removes a folder with all that steps left in it, and makes folders writable where it must."""
-    def again(_function: Any, path: str, _fault: Any) -> None:
-        for name in (os.path.dirname(path), path):
-            with contextlib.suppress(OSError):
-                os.chmod(name, stat.S_IRWXU)
-        with contextlib.suppress(OSError):
-            if os.path.isdir(path) and not os.path.islink(path):
-                shutil.rmtree(path)
-            else:
-                os.unlink(path)
-    if os.path.isdir(folder):
-        shutil.rmtree(folder, onerror=again)
-    if os.path.isdir(folder):  # files of another user's, as from a container
-        os.rename(folder, f'{folder}-left-{secrets.token_hex(6)}')
-
-
-def folders(options: Options) -> tuple[str, str]:
-    """The workspace, and the folder for files of the runner's, in the present folder or below --work."""
-    root = os.path.join(options.work, options.full_name) if options.work else os.getcwd()
-    return os.path.join(root, 'work'), os.path.join(root, 'temp')
-
-
-def clear(options: Options) -> None:
-    """Removes what a leg has left."""
-    container.remove_left()
-    for folder in folders(options):
-        remove(folder)
-
-
-@dataclass
-class Frame:
-    """Where steps stand: in the job, or in an action that has steps."""
-
-    inputs: Any
-    place: str | None = None
-    steps: dict[str, Any] = field(default_factory=dict)
-    status: str = 'success'
-    env: dict[str, str] = field(default_factory=dict)
 
 
 class Job:
@@ -100,25 +66,36 @@ class Job:
         self.log = log_of(self.options, self.leg, self.facts, self.secrets.values())
         self.storage, self.caches = self.stores()
         self.needs = self.needs_of(self.facts.get('results') or {})
+        self.github['secret_source'] = 'Actions' if self.secrets else 'None'
         if 'GITHUB_TOKEN' in self.secrets:
             self.github['token'] = self.secrets['GITHUB_TOKEN']
         self.frame, self.env, self.path = Frame(self.body.get('inputs') or {}), dict[str, str](), list[str]()
-        self.posts: list[Step] = []
         self.count, self.number, self.called = 0, 1, Counter[str]()
         self.defaults: dict[str, Any] = {name: value for of in (self.workflow, self.job)
                                          for name, value in ((of.get('defaults') or {}).get('run') or {}).items()}
         self.shell = self.defaults.get('shell')
         self.asked, self.clock = asked, Clock(asked, MINUTES)
+        self.by: container.Engine | None = None
         self.container: container.Container | None = None
         self.services: list[container.Service] = []
+        self.uses = Uses(self)
+        self.contained: dict[str, Action] = {}
+        self.matchers = Matchers(lambda words: self.log.write(f'##[warning]{words}'))
 
     def context_github(self) -> dict[str, Any]:
-        """The context `github`: of the body, of the hub, and of this runner."""
+        """The context `github`: of the body, of the hub, and of this runner. What has a value for pull requests alone
+        is empty for other events."""
         body = self.body.get('github') or {}
-        return {**(self.facts.get('github_defaults') or {}), **body, 'repository': self.body['repo'],
-                'workflow': self.workflow.get('name') or self.body['path'], 'run_id': self.leg.run, 'job': self.name,
-                'action': '__run', 'workspace': self.workspace, 'event_path': os.path.join(self.temp, 'event.json'),
-                **(self.facts.get('github') or {})}
+        return {'base_ref': '', 'head_ref': '', **(self.facts.get('github_defaults') or {}), **body,
+                'repository': self.body['repo'], 'workflow': self.workflow.get('name') or self.body['path'],
+                'run_id': self.leg.run, 'job': self.name, 'action': '__run', 'workspace': self.workspace,
+                'event_path': os.path.join(self.temp, contained.WORKFLOW, 'event.json'),
+                **self.files_of(self.temp), **(self.facts.get('github') or {})}
+
+    @staticmethod
+    def files_of(folder: str) -> dict[str, str]:
+        """The members of `github` that are the files of the present step."""
+        return {name.removeprefix('GITHUB_').lower(): path for name, path in paths_in(folder).items()}
 
     def stores(self) -> tuple[Storage | None, Caches | None]:
         """Where artifacts, outputs and caches are."""
@@ -157,7 +134,7 @@ class Job:
         """The contexts of a step."""
         frame = frame or self.frame
         strategy = {name: value for name, value in (self.job.get('strategy') or {}).items() if name != 'matrix'}
-        github = {**self.github, **({'action_path': frame.place} if frame.place else {})}
+        github = {**self.github, **(self.github_of(frame.action, frame) if frame.action else {})}
         needs = {} if self.needs is None else {'needs': self.needs}
         return {**needs, 'github': github, 'inputs': frame.inputs, 'vars': self.body.get('vars') or {},
                 'matrix': self.matrix, 'secrets': self.secrets, 'steps': frame.steps,
@@ -166,12 +143,18 @@ class Job:
                              'job-index': int(self.leg.leg)},
                 'job': self.context_job(frame), 'runner': self.context_runner()}
 
+    def github_of(self, action: Action, frame: Frame) -> dict[str, str]:
+        """What `github` has in an action besides."""
+        return {**action.reference(), 'action_path': action.folder, 'action_status': self.status(frame)}
+
     def context_job(self, frame: Frame) -> dict[str, Any]:
         """The context `job`."""
-        network = self.services[0].by.network if self.services else self.container.by.network if self.container else ''
-        inside = {'container': {'id': self.container.name, 'network': network}} if self.container else {}
-        services = {each.label: each.context() for each in self.services}
-        return {'status': self.status(frame), **inside, 'services': services}
+        network = {'network': self.by.network} if self.by and self.by.network else {}
+        inside = {'container': {'id': self.container.name, **network}} if self.container else {}
+        services = {each.label: each.context for each in self.services}
+        number = self.facts.get('check_run_id')
+        return {'status': self.status(frame), **inside, 'services': services,
+                **({'check_run_id': number} if number else {})}
 
     def context_runner(self) -> dict[str, Any]:
         """The context `runner`."""
@@ -187,7 +170,7 @@ class Job:
 
     def text(self, value: Any, frame: Frame, env: Mapping[str, str]) -> str:
         """A text of a step with its expressions replaced."""
-        return expressions.text_in(value, self.contexts(frame, env), self.workspace, lax=frame.place is not None)
+        return expressions.text_in(value, self.contexts(frame, env), self.workspace, lax=frame.action is not None)
 
     def texts(self, values: Mapping[str, Any] | None, frame: Frame, env: Mapping[str, str]) -> dict[str, str]:
         """Texts of a step."""
@@ -200,12 +183,14 @@ class Job:
         return {'CI': 'true', 'GITHUB_ACTIONS': 'true', 'COMBO': self.leg.combo, **variables(self.matrix, 'MATRIX_'),
                 **variables(values, 'GITHUB_'), **variables(contexts['runner'], 'RUNNER_')}
 
-    def environment(self, frame: Frame, env: Mapping[str, str], files: Files) -> dict[str, str]:
-        """All variables of a step. In a container those of this machine have no place."""
-        outside = {} if self.container else {name: value for name, value in os.environ.items() if name not in HIDDEN}
+    def environment(self, frame: Frame, env: Mapping[str, str], files: Files,
+                    inside: container.Place | None = None) -> dict[str, str]:
+        """All variables of a step. In a container those of this machine have no place, and in that of an action its
+        image says what PATH is."""
+        outside = {} if inside else {name: value for name, value in os.environ.items() if name not in HIDDEN}
         made: dict[str, str] = {**outside, **env, **self.given(frame), **files.paths,
                                 **({'CI': env['CI']} if 'CI' in env else {})}
-        if self.path or not self.container:
+        if not inside or self.path and not isinstance(inside, InAction):
             last = made.get('PATH') or (self.container.path if self.container else '')
             made['PATH'] = ':'.join([*reversed(self.path), last])
         return {name: value.replace('\0', '') for name, value in made.items()}
@@ -220,8 +205,10 @@ class Job:
         """Runs the steps, and gives how the leg ended."""
         self.log.mark(step=1, name='Set up job', begins=True)
         refusals = self.set_up()
-        for refusal in refusals:
-            self.log.refuse(refusal)
+        for number, refusal in enumerate(refusals):
+            place = place_of(refusal) if number < MAX_LINES else ''
+            line = self.storage.line_of(place) if self.storage and place else None
+            self.log.refuse(refusal, self.body['path'], line)
         self.log.mark(step=1, ends=True, outcome='failure' if refusals else 'success')
         result = 'failure' if refusals else act.run(self) if self.options.act else self.run_steps()
         self.log.mark(complete=True, result=result)
@@ -234,24 +221,42 @@ class Job:
         for folder in (self.workspace, self.temp):
             remove(folder)
             os.makedirs(folder)
+        for name in (contained.HOME, contained.WORKFLOW):
+            os.makedirs(os.path.join(self.temp, name))
         if isinstance(self.storage, FolderStorage):
             self.storage.forget_outputs()
         faults = self.faults()
         if faults:
             return faults
+        lacking = sorted(VARIABLES - self.given(self.frame).keys())
+        if lacking:
+            self.log.quiet(f'no value here: {", ".join(lacking)}')
         with open(self.github['event_path'], 'w', encoding='utf-8') as file:
             json.dump(self.github.get('event') or {}, file)
         try:
             self.begin_containers()
         except ValueError as fault:
             return [f'jobs.{self.name}.{"container" if self.job.get("container") else "services"}: {fault}']
-        return []
+        return list(self.make_images())
+
+    def make_images(self) -> Iterator[str]:
+        """Has the images of actions that are not of the workspace made. Gives what can't be, in words."""
+        for place, action in self.contained.items():
+            try:
+                self.uses.images.of(action)
+            except Cancelled:
+                return
+            except (StepFailed, ValueError) as fault:
+                yield f'{place}: {fault}'
 
     def run_steps(self) -> str:
-        """Runs the steps of the job, and what actions do after them."""
-        self.run_all(self.job['steps'], self.frame)
-        for post in reversed(self.posts):
-            self.run_numbered(post, post['frame'])
+        """Runs the steps of the job, and what actions do before and after them."""
+        steps: list[Step] = [{**step, 'state': {}} for step in self.job['steps']]
+        for step in steps:
+            self.uses.begin(step)
+        self.run_all(steps, self.frame)
+        for post in reversed(self.uses.posts):
+            self.run_numbered(post, self.frame)
         self.number += 1
         self.log.mark(step=self.number, name='Complete job', begins=True)
         result = self.hand_on()
@@ -278,9 +283,8 @@ class Job:
         said: dict[str, Any] = self.job.get('services') or {}
         if not self.job.get('container') and not said:
             return
-        by = container.Engine()
-        if said:
-            by.make_network()
+        by = self.engine()
+        by.make_network()
         for label, value in said.items():
             image = container.described(value).each(lambda text: self.text(text, self.frame, self.env))
             self.services.append(container.Service(by, label, image))
@@ -291,10 +295,32 @@ class Job:
             image = container.described(self.job['container']).each(lambda text: self.text(text, self.frame, self.env))
             self.container = container.Container(by, image, (self.workspace, self.temp))
 
+    def engine(self) -> container.Engine:
+        """docker or podman, for this job."""
+        if self.by is None:
+            self.by = container.Engine()
+        return self.by
+
+    def run_engine(self, *words: str) -> None:
+        """Has the engine do something that takes its time, with what it prints in the log."""
+        self.log.quiet(f'##[group]{" ".join(words[1:3])}')
+        process = Process(words, self.workspace, dict(os.environ), replace(self.listener(), obeys=False))
+        outcome = process.wait(self.clock, float('inf'), lambda: False)
+        self.log.quiet('##[endgroup]')
+        if outcome == 'cancelled':
+            raise Cancelled
+        if outcome != 'success':
+            raise StepFailed(f'{os.path.basename(words[0])} {words[1]} has failed')
+
+    def listener(self, inside: container.Place | None = None) -> Listener:
+        """Where what a process prints goes."""
+        paths = inside.paths if isinstance(inside, InAction) else Paths(self.workspace)
+        return Listener(self.log, self.matchers, paths, self.number, self.is_debug())
+
     def faults(self) -> list[str]:
         """What can't be done, in words. Nothing has run yet."""
         try:
-            faults = act.faults(self) if self.options.act else Plan.of_all(self)
+            faults = act.faults(self) if self.options.act else self.planned()
             if not faults:
                 for values in (self.workflow.get('env'), self.job.get('env')):
                     self.env.update(self.texts(values, self.frame, self.env))
@@ -303,6 +329,13 @@ class Job:
             return faults
         except (ValueError, TypeError, KeyError, AttributeError) as fault:
             return [f'jobs.{self.name}: not of the form of a job ({fault!r})']
+
+    def planned(self) -> list[str]:
+        """What can't be done of the steps, in words."""
+        plan = Plan(self)
+        plan.of_job(self.job, f'jobs.{self.name}')
+        self.contained = plan.contained
+        return plan.faults
 
     def run_all(self, steps: Iterable[Step], frame: Frame) -> None:
         """Runs steps in their order. Those of the job have numbers."""
@@ -315,13 +348,14 @@ class Job:
             else:
                 self.run_step(step, frame)
 
-    def run_numbered(self, step: Step, frame: Frame) -> None:
-        """Runs a step of the job, between its marks."""
+    def run_numbered(self, step: Step, frame: Frame) -> dict[str, str]:
+        """Runs a step of the job, between its marks, and gives what it came to."""
         self.number += 1
-        self.github['action'] = self.action_of(step)
+        self.github['action'] = step.get('action') or self.action_of(step)
         self.log.mark(step=self.number, name=self.title(step, frame), begins=True)
         result = self.run_step(step, frame)
         self.log.mark(step=self.number, ends=True, **result)
+        return result
 
     def action_of(self, step: Step) -> str:
         """`github.action`: the id of a step, else `__run` or the name of its action, with a number from the second
@@ -330,8 +364,8 @@ class Job:
             return str(step['id'])
         action = str(step.get('uses') or 'run').partition('@')[0]
         name = '__' + re.sub('[^A-Za-z0-9-]+', '_', action).strip('_')
-        self.called[name] += 1
-        return name if self.called[name] == 1 else f'{name}_{self.called[name]}'
+        self.called[name] += 'part' not in step
+        return name if self.called[name] < 2 else f'{name}_{self.called[name]}'
 
     def title(self, step: Step, frame: Frame) -> str:
         """The name of a step, as GitHub shows it."""
@@ -346,7 +380,7 @@ class Job:
         outputs: dict[str, str] = {}
         outcome = 'skipped'
         try:
-            env = {**self.env, **frame.env}
+            env = {**self.env, **frame.env, **step.get('own', {})}
             env.update(self.texts(step.get('env'), frame, env))
             if self.is_due(step, frame, env, self.status(frame)):
                 outcome = self.perform(step, frame, env, outputs)
@@ -354,7 +388,7 @@ class Job:
             outcome = 'cancelled'
         except Exception as fault:  # of whatever kind, it is this step's alone
             self.log.write(f'the step fails: {fault}')
-            self.log.annotate(annotation(f'the step fails: {fault}'), self.number)
+            self.log.annotate(annotation('error', f'the step fails: {fault}'), self.number)
             outcome = 'failure'
         conclusion = 'success' if outcome == 'failure' and self.is_allowed(step, frame) else outcome
         if conclusion == 'failure' and frame.status == 'success':
@@ -365,8 +399,8 @@ class Job:
 
     def is_due(self, step: Step, frame: Frame, env: Mapping[str, str], status: str) -> bool | None:
         """Whether a step runs after steps that ended so."""
-        contexts = self.contexts(frame, env)
-        return expressions.condition_of(step.get('if', ''), contexts, status, self.workspace, frame.place is not None)
+        contexts, lax = self.contexts(frame, env), frame.action is not None or 'part' in step
+        return expressions.condition_of(step.get('if', ''), contexts, status, self.workspace, lax)
 
     def is_allowed(self, step: Step, frame: Frame) -> bool:
         """Whether the step may fail."""
@@ -377,24 +411,24 @@ class Job:
     def perform(self, step: Step, frame: Frame, env: dict[str, str], outputs: dict[str, str]) -> str:
         """What a step came to. Sets its outputs."""
         folder = self.step_folder()
+        self.github.update(self.files_of(folder))
         step = {**step, 'late': self.late_of(step, frame, env), 'frame': frame}
         if 'run' in step:
             return self.run_script(step, frame, env, outputs, folder)
-        if 'node' in step:
-            return self.run_node(step, env, outputs, folder)
+        if 'part' in step:
+            return self.uses.run_part(step, env, outputs, folder)
         if 'after' in step:
             after: Post = step['after']
             after(self, self.caller(step, frame, env, folder))
             return 'success'
         builtin = builtin_of(step['uses'], self.options)
-        given = self.texts(step.get('with'), frame, env)
         if not builtin:
-            return self.run_action(Action.of(self, step['uses']), given, step, frame, env, outputs)
+            return self.uses.run(step, frame, env, outputs)
+        given = self.texts(builtin.taken(step.get('with') or {}), frame, env)
         outputs.update(builtin.run(self, given, self.caller(step, frame, env, folder)))
         post = builtin.post(self, given, outputs)
         if post:
-            self.posts.append({'name': f'Post {self.title(step, frame)}', 'if': 'success()', 'after': post,
-                               'frame': frame})
+            self.uses.posts.append({'name': f'Post {self.title(step, frame)}', 'if': 'success()', 'after': post})
         return 'success'
 
     def step_folder(self) -> str:
@@ -412,19 +446,17 @@ class Job:
     # Processes.
 
     def spawn(self, words: Sequence[str], place: str, step: Step, frame: Frame, env: dict[str, str],
-              note: str | None = None) -> tuple[str, Process]:
-        """Runs a process to its end, and gives how it ended. With a note it runs in the container of the job, if it has
-        one."""
+              inside: container.Place | None = None) -> tuple[str, Process]:
+        """Runs a process to its end, and gives how it ended."""
         if not os.path.isdir(place):
             raise StepFailed(f'there is no folder {place}')
-        inside = Inside(self.container, note) if self.container and note else None
-        process = Process(words, place, env, self.log, inside, self.number, self.is_debug())
+        process = Process(words, place, env, self.listener(inside), inside)
         return process.wait(self.clock, step['late'], lambda: self.is_due(step, frame, env, 'cancelled')), process
 
     def caller(self, step: Step, frame: Frame, env: dict[str, str], folder: str) -> Call:
         """Runs processes of an action that this runner does itself."""
         def call(*words: str, cwd: str) -> None:
-            given = {**os.environ, **self.environment(frame, env, Files(folder)), 'GIT_TERMINAL_PROMPT': '0'}
+            given = {**self.environment(frame, env, Files(folder)), 'GIT_TERMINAL_PROMPT': '0'}
             outcome, _ = self.spawn(words, cwd, step, frame, given)
             if outcome == 'cancelled':
                 raise Cancelled
@@ -434,14 +466,14 @@ class Job:
 
     def run_script(self, step: Step, frame: Frame, env: dict[str, str], outputs: dict[str, str], folder: str) -> str:
         """Runs a step of `run`."""
-        shell = self.text(step.get('shell', None if frame.place else self.shell), frame, env) or None
+        shell = self.text(step.get('shell', None if frame.action else self.shell), frame, env) or None
         words = shell_words(shell, inside=self.container is not None)
         text = self.text(step['run'], frame, env)
         script = os.path.join(folder, 'script' + ENDINGS.get(shell or '', '.sh'))
         with open(script, 'w', encoding='utf-8') as file:
             file.write(text + '\n')
         self.announce(text, words, step, env)
-        default = None if frame.place else self.defaults.get('working-directory')
+        default = None if frame.action else self.defaults.get('working-directory')
         place = self.text(step.get('working-directory', default) or '.', frame, env)
         words = [word.replace('{0}', script) for word in words]
         return self.run_process(words, place, step, frame, env, outputs, folder)
@@ -460,126 +492,48 @@ class Job:
         self.log.quiet('##[endgroup]')
 
     def run_process(self, words: Sequence[str], place: str, step: Step, frame: Frame, env: dict[str, str],
-                    outputs: dict[str, str], folder: str) -> str:
-        """Runs the process of a step, and takes what it hands on."""
+                    outputs: dict[str, str], folder: str, inside: container.Place | None = None) -> str:
+        """Runs the process of a step, in the container of the job if there is no other one, and takes what it hands
+        on."""
         files = Files(folder)
-        env = self.environment(frame, env, files)
+        if self.container and not inside:
+            inside = container.InJob(self.container, os.path.join(folder, 'process'))
+        env = self.environment(frame, env, files, inside)
         outcome, process = self.spawn(words, os.path.normpath(os.path.join(self.workspace, place)), step, frame, env,
-                                      os.path.join(folder, 'process'))
+                                      inside)
         if outcome == 'failure':
-            late = process.why is not None
-            words_of_it = 'The step is over its time limit.' if late else \
-                f'Process completed with exit code {process.child.returncode}.'
-            self.log.quiet(f'##[error]{words_of_it}')
-            self.log.annotate(annotation(words_of_it), self.number)
+            self.fail('The step is over its time limit.' if process.why else
+                      f'Process completed with exit code {process.child.returncode}.')
         summary = files.text('GITHUB_STEP_SUMMARY')
         if summary:
             self.log.summarize(summary, self.number)
-        outputs.update({**process.reader.outputs, **files.values('GITHUB_OUTPUT')})
-        step.get('state', {}).update({**process.reader.state, **files.values('GITHUB_STATE')})
-        new = {name: value for name, value in files.values('GITHUB_ENV').items()
-               if not re.match('GITHUB_|RUNNER_|NODE_OPTIONS$', name)}
-        self.env.update(new)
+        handed_on = process.reader.handed_on
+        outputs.update({**handed_on.outputs, **files.values('GITHUB_OUTPUT')})
+        step.get('state', {}).update({**handed_on.state, **files.values('GITHUB_STATE')})
+        self.set_variables(files.values('GITHUB_ENV'))
         self.path += [line for line in files.text('GITHUB_PATH').splitlines() if line]
-        return outcome
+        return 'failure' if outcome == 'success' and handed_on.faults else outcome
+
+    def fail(self, words: str) -> None:
+        """Says why a step fails, as GitHub does."""
+        self.log.quiet(f'##[error]{words}')
+        self.log.annotate(annotation('error', words), self.number)
+
+    def set_variables(self, new: Mapping[str, str]) -> None:
+        """Sets variables for the steps to come. The default ones stay, and that by which every action of node could be
+        changed fails the step, as at GitHub."""
+        if 'NODE_OPTIONS' in map(str.upper, new):
+            raise StepFailed("GITHUB_ENV can't set NODE_OPTIONS")
+        for name in sorted(new.keys() & (VARIABLES - {'CI'})):
+            self.log.write(f'##[warning]GITHUB_ENV does not change {name}, which is a default variable')
+        self.env.update({name: value for name, value in new.items() if name not in VARIABLES or name == 'CI'})
 
     # Actions.
 
-    def inputs_of(self, action: Action, given: dict[str, str], env: Mapping[str, str]) -> dict[str, str]:
-        """The inputs of an action: those that are given, else their defaults."""
-        names = {name.lower(): value for name, value in given.items()}
-        inner = Frame({}, action.folder)
-        said = {name: value if isinstance(value, dict) else {} for name, value in action.inputs.items()}
-        defaults = {name: self.text(value.get('default', ''), inner, env) for name, value in said.items()}
-        missing = [name for name, value in said.items() if str(value.get('required')).lower() == 'true'
-                   and not names.get(name.lower(), defaults[name])]
-        if missing:
-            self.log.write(f'{action.uses}: no input {", ".join(missing)}')
-        known = {name: names[name.lower()] for name in defaults if name.lower() in names}
-        return {**given, **defaults, **known}
-
-    def run_action(self, action: Action, given: dict[str, str], step: Step, frame: Frame, env: dict[str, str],
-                   outputs: dict[str, str]) -> str:
-        """Runs an action, and has its `post` run later."""
-        inputs = self.inputs_of(action, given, env)
-        if action.is_local:
-            faults = Plan.of_one(self, action)
-            if faults:
-                raise StepFailed('; '.join(faults))
-        if action.using == 'composite':
-            return self.run_composite(action, inputs, env, outputs)
-        named = {'INPUT_' + name.replace(' ', '_').upper(): value for name, value in inputs.items()}
-        node: dict[str, Any] = {'action': action, 'env_of_inputs': named, 'state': {}}
-        inner = Frame(inputs, action.folder)
-        if action.runs.get('post'):
-            self.posts.append({'name': f'Post {self.title(step, frame)}', 'if': action.runs.get('post-if', 'always()'),
-                               'node': {**node, 'file': 'post'}, 'frame': inner, 'env': step.get('env')})
-        before = {'if': action.runs.get('pre-if', 'always()'), 'node': {**node, 'file': 'pre'}}
-        if action.runs.get('pre') and self.is_due(before, inner, env, self.status(frame)):
-            self.perform(before, frame, env, {})
-        main = {'node': {**node, 'file': 'main'}, 'if': step.get('if', ''),
-                'timeout-minutes': step.get('timeout-minutes')}
-        return self.perform(main, frame, env, outputs)
-
-    def run_composite(self, action: Action, inputs: dict[str, str], env: Mapping[str, str],
-                      outputs: dict[str, str]) -> str:
-        """Runs the steps of an action."""
-        inner = Frame(inputs, action.folder)
-        inner.env = {name: value for name, value in env.items() if self.env.get(name) != value}
-        self.run_all(action.runs['steps'], inner)
-        said = action.said.get('outputs') or {}
-        outputs.update({name: self.text(value.get('value', ''), inner, env) for name, value in said.items()})
-        return self.status(inner)
-
-    def run_node(self, step: Step, env: dict[str, str], outputs: dict[str, str], folder: str) -> str:
-        """Runs a file of an action of node."""
-        node = step['node']
-        action: Action = node['action']
-        env = {**env, **node['env_of_inputs'], **{f'STATE_{name}': value for name, value in node['state'].items()}}
-        words = ['node', os.path.join(action.folder, action.runs[node['file']])]
-        inner = Frame({}, action.folder)
-        return self.run_process(words, '.', {**step, 'state': node['state']}, inner, env, outputs, folder)
-
-
-def annotation(message: str) -> dict[str, Any]:
-    """An annotation of the runner's own."""
-    return {'annotation_level': 'failure', 'message': message, 'title': None, 'path': None, 'start_line': None,
-            'end_line': None, 'start_column': None, 'end_column': None}
-
-
-def is_of_a_fork(github: Mapping[str, Any], repository: str) -> bool:
-    """Whether it is a pull request that does not come from the repository itself, as far as the event shows it."""
-    if github.get('event_name') != 'pull_request':
-        return False
-    found: Any = github.get('event')
-    for name in ('pull_request', 'head', 'repo', 'full_name'):
-        found = found.get(name) if isinstance(found, dict) else None
-    return bool(found != repository)
-
-
-def environment_of(job: Mapping[str, Any]) -> str:
-    """The name of the environment of a job; the empty text if it has none, or one that an expression names."""
-    said = job.get('environment')
-    name = said.get('name') if isinstance(said, dict) else said
-    return name if isinstance(name, str) and '${{' not in name else ''
-
-
-def secrets_in(path: str | None, environment: str) -> dict[str, str]:
-    """The secrets of this runner: a JSON object of texts, in a file that nobody else may read. Its member
-    `environments` may have more for jobs of an environment."""
-    if not path:
-        return {}
-    if os.stat(path).st_mode & 0o077:
-        raise ValueError(f'others may read {path}: chmod 600')
-    with open(path, encoding='utf-8') as file:
-        found = json.load(file)
-    if not isinstance(found, dict):
-        raise ValueError(f'{path} is no JSON object of texts')
-    more = found.pop('environments', None) or {}
-    found.update((more.get(environment) or {}) if isinstance(more, dict) else {})
-    if not all(isinstance(value, str) for value in found.values()):
-        raise ValueError(f'{path} is no JSON object of texts')
-    return found
+def place_of(refusal: str) -> str:
+    """The place of the workflow that a refusal is about: of something in an action the step that uses it."""
+    found = re.match(r'(?:the workflow\.)?((?:jobs|env|defaults|permissions)\b[^ :]*)', refusal)
+    return found[1] if found else ''
 
 
 def log_of(options: Options, leg: Held, facts: Mapping[str, Any], secrets_of_it: Iterable[str] = ()) -> Log:
@@ -619,6 +573,7 @@ def run(order: dict[str, Any], asked: Sequence[float]) -> str:
     finally:
         if job.storage:
             job.storage.close()
+        job.matchers.close()
         if job.container:
             job.container.empty(job.workspace)
         container.remove_left()

@@ -18,6 +18,7 @@ SECONDS_OF_TERM = 10
 ROOT = os.path.dirname(os.path.dirname(os.path.abspath(__file__)))
 PROGRAM = f'import sys; sys.path.insert(0, {ROOT!r}); from acts_runner.__main__ import main; main()'
 PR_SET_CHILD_SUBREAPER = 36
+HELPERS: set[int] = set()  # processes below this one that are the runner's own, and no step's
 
 
 def program() -> list[str]:

@@ -14,9 +14,6 @@ from itertools import groupby
 from operator import itemgetter
 from typing import IO, Any, Iterable
 
-from .commands import Command, annotation_of, command_in
-
-LONGEST_LINE = 1 << 20
 MAX_ANNOTATIONS = 100  # of a leg
 MAX_SUMMARY = 1 << 20  # bytes of the summary of a step, as at GitHub
 SENT_SUMMARY = 1 << 18  # bytes of it that go to the hub
@@ -110,11 +107,13 @@ class Log:
         """Writes a line of the runner's own, into the log alone."""
         self.write(line, echo=False)
 
-    def refuse(self, words: str) -> None:
-        """Says why the steps do not run, in the log and as an annotation."""
-        self.write(f'not run: {words}')
-        self.annotate({'annotation_level': 'failure', 'message': f'not run: {words}', 'title': None, 'path': None,
-                       'start_line': None, 'end_line': None, 'start_column': None, 'end_column': None})
+    def refuse(self, words: str, path: str = '', line: int | None = None) -> None:
+        """Says why the steps do not run, and at which line of the workflow if that is known: in the log and as an
+        annotation."""
+        said = f'not run: {words}' + (f' ({path}:{line})' if line else '')
+        self.write(said)
+        self.annotate({'annotation_level': 'failure', 'message': said, 'title': None, 'path': path if line else None,
+                       'start_line': line, 'end_line': line, 'start_column': None, 'end_column': None})
 
     def mark(self, **members: Any) -> None:
         """Writes a mark, with the present end of the log."""
@@ -143,69 +142,3 @@ class Log:
         with contextlib.suppress(OSError), open(self.path + '.summary.md', 'a', encoding='utf-8') as file:
             file.write(text)
         self.mark(summary=text.encode()[:SENT_SUMMARY].decode(errors='ignore'), step=step)
-
-
-class Reader(threading.Thread):
-    """Reads what a step prints, and carries out the commands in it. It goes on while something that the step has left
-    running may print."""
-
-    def __init__(self, pipe: IO[bytes], log: Log, step: int | None = None, debug: bool = False) -> None:
-        super().__init__(daemon=True)
-        self.pipe, self.log, self.step, self.debug = pipe, log, step, debug
-        self.outputs: dict[str, str] = {}
-        self.state: dict[str, str] = {}
-        self.paused: str | None = None
-        self.start()
-
-    def run(self) -> None:
-        """Takes line by line."""
-        held = b''
-        while data := self.read():
-            *lines, held = (held + data).split(b'\n')
-            if len(held) > LONGEST_LINE:
-                lines, held = [*lines, held], b''
-            for line in lines:
-                self.take(line.decode(errors='replace').rstrip('\r'))
-        if held:
-            self.take(held.decode(errors='replace'))
-
-    def read(self) -> bytes:
-        """What there is; nothing at the end."""
-        try:
-            return os.read(self.pipe.fileno(), 1 << 16)
-        except (OSError, ValueError):
-            return b''
-
-    def take(self, line: str) -> None:
-        """Writes a line, or carries it out."""
-        command = command_in(line)
-        if self.paused and command and command.name == self.paused:
-            self.paused = None
-        elif self.paused or not command:
-            self.log.write(line)
-        else:
-            self.carry_out(command, line)
-
-    def carry_out(self, command: Command, line: str) -> None:
-        """Does what a command says, and writes what GitHub's log has of it."""
-        name, value = command.name, command.value
-        annotation = annotation_of(command)
-        if name == 'add-mask':
-            if value.strip():
-                self.log.mask(value)
-        elif name == 'stop-commands':
-            self.paused = value
-        elif name == 'set-output':
-            self.outputs[command.properties.get('name', '')] = value
-        elif name == 'save-state':
-            self.state[command.properties.get('name', '')] = value
-        elif name == 'debug':
-            if self.debug:
-                self.log.write(f'##[debug]{value}')
-        elif annotation:
-            self.log.write(f'##[{name}]{value}')
-            self.log.annotate(annotation, self.step)
-        elif name in ('group', 'endgroup'):
-            self.log.write(f'##[{name}]{value}')
-        else:
-            self.log.write(line)

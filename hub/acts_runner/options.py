@@ -41,6 +41,7 @@ class Options:
     actions_from: str | None = None
     actions_lock: str | None = None
     tool_cache: str | None = None
+    install: str | None = None
     artifacts: str | None = None
     secrets: str | None = None
     environment: tuple[str, ...] = ()
@@ -102,6 +103,8 @@ def add_folders(made: argparse.ArgumentParser) -> None:
     add('--log-bytes', type=int, default=1 << 26, help='bytes of a log; what follows is left out (67108864)')
     add('--logs-kept', type=int, default=1000, help='how many logs there are; the oldest ones are removed (1000)')
     add('--tool-cache', metavar='FOLDER', help='tools by name, version and architecture, as GitHub lays them out')
+    add('--install', metavar='COMMAND',
+        help='puts a tool into the tool cache that lacks there: COMMAND NAME VERSION ARCHITECTURE FOLDER')
     add('--secrets', metavar='FILE', help='a JSON object of secrets, in a file for its owner alone')
 
 

@@ -1,36 +1,40 @@
 """What a runner can't do of a job: said before the first step runs."""
 from __future__ import annotations
 
+import contextlib
 import os
 import re
 import shutil
 from typing import TYPE_CHECKING, Any, Mapping
 
+from acts_workflow.members import JOB, STEP
 from acts_workflow.values import Unknown
 
-from . import container, expressions
+from . import contained, container, expressions
 from .actions import Action
 from .builtin import builtin_of
 from .builtin.base import UNKNOWN
+from .documented import AVAILABLE, OF_SERVICES, PERMISSIONS, VARIABLES
 from .steps import StepFailed, shell_words
 
 if TYPE_CHECKING:
     from .job import Job
 
-JOB = set('''name permissions needs if runs-on environment concurrency outputs env defaults steps timeout-minutes
-strategy continue-on-error container services'''.split())
-STEP = set('id if name uses run working-directory shell with env continue-on-error timeout-minutes'.split())
+TEXTS = 'run', 'with', 'env', 'working-directory', 'continue-on-error'
 DEPTH = 10  # of actions that use actions
 MAX_SERVICES = 20
+VARIABLE = re.compile('(?:GITHUB|RUNNER|ACTIONS)_[A-Z_]+')
 
 
 class Plan:
-    """`faults` are the things that can't be done, each with its place."""
+    """`faults` are the things that can't be done, each with its place; `contained` the actions whose images are made
+    before the first step, by their places."""
 
     def __init__(self, job: Job) -> None:
-        self.job, self.faults = job, list[str]()
-        rest = {name: Unknown() for name in ('env', 'steps', 'job', 'runner', 'secrets')}
+        self.job, self.faults, self.contained = job, list[str](), dict[str, Action]()
+        rest = {name: Unknown() for name in ('env', 'steps', 'job', 'runner')}
         self.contexts: dict[str, Any] = {**job.contexts(), **rest}
+        self.lacking = (VARIABLES - job.given(job.frame).keys()) | OF_SERVICES
 
     @classmethod
     def of_all(cls, job: Job) -> list[str]:
@@ -50,24 +54,28 @@ class Plan:
         """Notes what can't be done."""
         self.faults.append(f'{place}: {words}')
 
-    def value(self, place: str, text: Any, lax: bool = False) -> Any:
-        """The value of a text as far as it is known, or a fault."""
+    def value(self, place: str, text: Any, key: str, lax: bool = False) -> Any:
+        """The value of a text as far as it is known, or a fault. The key says which contexts there are."""
         try:
+            expressions.check(text, key)
+            if key == 'runs.steps' and 'token' not in self.job.github and expressions.names(text, 'github', 'token'):
+                raise ValueError(f'github.token has no value here, in {text.strip()[:200]}')
             return expressions.value_of(text, self.contexts, folder=self.job.workspace, lax=lax)
         except ValueError as fault:
             self.fault(place, fault)
             return None
 
-    def texts(self, place: str, value: Any, lax: bool = False) -> None:
+    def texts(self, place: str, value: Any, key: str, lax: bool = False) -> None:
         """Looks at all texts in a value."""
         if isinstance(value, dict):
             for name, item in value.items():
-                self.texts(f'{place}.{name}', item, lax)
+                inner = f'{key}.{name}'
+                self.texts(f'{place}.{name}', item, inner if inner in AVAILABLE else key, lax)
         elif isinstance(value, list):
             for number, item in enumerate(value):
-                self.texts(f'{place}[{number}]', item, lax)
+                self.texts(f'{place}[{number}]', item, key, lax)
         else:
-            self.value(place, value, lax)
+            self.value(place, value, key, lax)
 
     def of_objects(self, members: Mapping[str, Any], place: str) -> None:
         """Members that have to be objects."""
@@ -81,20 +89,31 @@ class Plan:
         self.of_objects(job, place)
         for name in sorted(job.keys() - JOB):
             self.fault(f'{place}.{name}', 'this runner does not do it')
-        for name in ('env', 'defaults', 'timeout-minutes', 'outputs'):
-            self.texts(f'{place}.{name}', job.get(name))
-        self.texts('env', self.job.workflow.get('env'))
+        for name, key in (('env', 'jobs.env'), ('defaults', 'jobs.defaults.run'), ('outputs', 'jobs.outputs')):
+            self.texts(f'{place}.{name}', job.get(name), key)
+        self.texts('env', self.job.workflow.get('env'), 'env')
+        self.of_permissions(job, place)
         self.of_environment(job.get('environment'), f'{place}.environment')
-        self.of_minutes(job, place)
+        self.of_minutes(job, place, 'jobs.timeout-minutes')
         self.of_containers(job, place)
         if not isinstance(job.get('steps'), list) or not job['steps']:
             self.fault(f'{place}.steps', 'there are none')
         else:
             self.of_steps(job['steps'], f'{place}.steps', self.job.shell, 0)
 
+    def of_permissions(self, job: Mapping[str, Any], place: str) -> None:
+        """Permissions that are of no use without a service that only GitHub has."""
+        where, said = (f'{place}.', job) if 'permissions' in job else ('', self.job.workflow)
+        given = said.get('permissions')
+        for name, what in PERMISSIONS.items():
+            if isinstance(given, dict) and given.get(name) == 'write':
+                self.fault(f'{where}permissions.{name}', f'{what} is a service of GitHub\'s, and not here')
+
     def of_environment(self, environment: Any, place: str) -> None:
         """The environment of a job, which the operator or an approval has to free."""
-        name = self.value(place, environment.get('name') if isinstance(environment, dict) else environment)
+        said = environment if isinstance(environment, dict) else {'name': environment}
+        name = self.value(place, said.get('name'), 'jobs.environment')
+        self.value(f'{place}.url', said.get('url'), 'jobs.environment.url')
         if not environment or self.job.facts.get('is_approved') or name in self.job.options.environment:
             return
         if not isinstance(name, str) or name.lower() not in (self.job.facts.get('free_environments') or ()):
@@ -109,7 +128,7 @@ class Plan:
         if job.get('container'):
             said = {f'{place}.container': job['container'], **said}
         for where, value in said.items():
-            self.texts(where, value)
+            self.texts(where, value, 'jobs.container')
             try:
                 container.described(value)
             except ValueError as fault:
@@ -119,9 +138,9 @@ class Plan:
         if said and not container.engine():
             self.fault(next(iter(said)), 'neither docker nor podman answers here')
 
-    def of_minutes(self, members: Mapping[str, Any], place: str) -> None:
+    def of_minutes(self, members: Mapping[str, Any], place: str, key: str) -> None:
         """A time limit."""
-        minutes = self.value(f'{place}.timeout-minutes', members.get('timeout-minutes'))
+        minutes = self.value(f'{place}.timeout-minutes', members.get('timeout-minutes'), key)
         if isinstance(minutes, (str, bool)) or isinstance(minutes, (int, float)) and minutes <= 0:
             self.fault(f'{place}.timeout-minutes', f'{minutes} is no number of minutes')
 
@@ -135,28 +154,63 @@ class Plan:
 
     def of_step(self, step: dict[str, Any], place: str, shell: Any, depth: int, lax: bool) -> None:
         """A step."""
+        key = 'runs.steps' if lax else 'jobs.steps'
+        self.of_members(step, place)
+        self.of_name(step.get('name'), f'{place}.name', key)
+        self.texts(place, self.texts_of(step), key, lax)
+        self.of_minutes(step, place, key)
+        self.of_condition(step.get('if', ''), f'{place}.if', lax)
+        if ('run' in step) == ('uses' in step):
+            self.fault(place, 'it has to have either `run` or `uses`')
+        elif isinstance(step.get('run'), (dict, list)) or not step.get('run', True):
+            self.fault(f'{place}.run', 'it is no text')
+        elif 'run' in step:
+            self.of_shell(self.value(f'{place}.shell', step.get('shell', shell), key, lax), place)
+            self.of_variables(step, f'{place}.run')
+        else:
+            self.of_uses(step, place, key, depth)
+
+    def texts_of(self, step: dict[str, Any]) -> dict[str, Any]:
+        """The members of a step in which expressions are replaced, without inputs that change nothing here."""
+        kept = {name: value for name, value in step.items() if name in TEXTS}
+        with contextlib.suppress(ValueError):
+            builtin = builtin_of(str(step.get('uses')), self.job.options)
+            if builtin and isinstance(kept.get('with'), dict):
+                kept['with'] = builtin.taken(kept['with'])
+        return kept
+
+    def of_members(self, step: dict[str, Any], place: str) -> None:
+        """The members of a step, and of which kind they are."""
         for name in sorted(step.keys() - STEP):
             self.fault(f'{place}.{name}', 'this runner does not do it')
-        self.texts(place, {name: step[name] for name in step.keys() & (STEP - {'if', 'id', 'uses', 'name'})}, lax)
         self.of_objects(step, place)
         for name in ('id', 'uses', 'shell', 'working-directory'):
             if name in step and not isinstance(step[name], str):
                 self.fault(f'{place}.{name}', 'it is no text')
         if isinstance(step.get('id'), str) and not re.fullmatch('[A-Za-z_][A-Za-z0-9_-]*', step['id']):
             self.fault(f'{place}.id', 'it is no name')
-        self.of_minutes(step, place)
+
+    def of_name(self, name: Any, place: str, key: str) -> None:
+        """The name of a step, in which a value may lack."""
         try:
-            expressions.condition_of(step.get('if', ''), self.contexts, 'success', self.job.workspace, lax)
+            expressions.check(name, key)
         except ValueError as fault:
-            self.fault(f'{place}.if', fault)
-        if ('run' in step) == ('uses' in step):
-            self.fault(place, 'it has to have either `run` or `uses`')
-        elif isinstance(step.get('run'), (dict, list)) or not step.get('run', True):
-            self.fault(f'{place}.run', 'it is no text')
-        elif 'run' in step:
-            self.of_shell(self.value(f'{place}.shell', step.get('shell', shell), lax), place)
-        else:
-            self.of_uses(step, place, depth)
+            self.fault(place, fault)
+
+    def of_condition(self, condition: Any, place: str, lax: bool) -> None:
+        """The condition of a step."""
+        try:
+            expressions.check(condition, 'runs.steps' if lax else 'jobs.steps.if', is_condition=True)
+            expressions.condition_of(condition, self.contexts, 'success', self.job.workspace, lax)
+        except ValueError as fault:
+            self.fault(place, fault)
+
+    def of_variables(self, step: dict[str, Any], place: str) -> None:
+        """Variables that the documentation promises to a script, that it names, and that have no value here."""
+        own = [of.get('env') for of in (step, self.job.job, self.job.workflow)]
+        given = {name for env in own if isinstance(env, dict) for name in env}
+        for name in sorted(self.lacking & set(VARIABLE.findall(str(step['run']))) - given):
+            self.fault(place, f'{name} has no value here')
 
     def of_shell(self, shell: Any, place: str) -> None:
         """The shell of a step."""
@@ -169,7 +223,7 @@ class Plan:
         except ValueError as fault:
             self.fault(f'{place}.shell', fault)
 
-    def of_uses(self, step: dict[str, Any], place: str, depth: int) -> None:
+    def of_uses(self, step: dict[str, Any], place: str, key: str, depth: int) -> None:
         """The action of a step."""
         if not isinstance(step['uses'], str):
             return
@@ -177,7 +231,8 @@ class Plan:
             builtin = builtin_of(step['uses'], self.job.options)
             if builtin:
                 said = step['with'] if isinstance(step.get('with'), dict) else {}
-                given = {name: self.value(f'{place}.with.{name}', value) for name, value in said.items()}
+                given = {name: self.value(f'{place}.with.{name}', value, key)
+                         for name, value in builtin.taken(said).items()}
                 builtin.check(self.job, {name: UNKNOWN if isinstance(value, Unknown) else value
                                          for name, value in given.items()})
             else:
@@ -189,10 +244,17 @@ class Plan:
         """An action, with those that it uses."""
         if depth == DEPTH:
             self.fault(place, f'over {DEPTH} actions use one another')
-        elif action.using == 'composite':
+            return
+        for name, said in action.inputs.items():
+            if isinstance(said, dict):
+                self.value(f'{place}.inputs.{name}.default', said.get('default'), 'inputs.default', lax=True)
+        if action.using == 'composite':
             given, self.contexts = self.contexts, {**self.contexts, 'inputs': Unknown()}
             self.of_steps(action.runs['steps'], place, None, depth + 1, lax=True)
+            self.texts(f'{place}.outputs', action.outputs(), 'outputs.value', lax=True)
             self.contexts = given
+        elif action.using == 'docker':
+            self.of_contained(action, place)
         elif not re.fullmatch('node[0-9]+', action.using):
             self.fault(place, f'this runner has no actions of {action.using}')
         elif self.job.job.get('container'):
@@ -201,6 +263,15 @@ class Plan:
             self.fault(place, 'node is not installed')
         else:
             self.of_files(action, place)
+
+    def of_contained(self, action: Action, place: str) -> None:
+        """An action that runs in a container of its own."""
+        for words in contained.faults_of(action, (self.job.temp, self.job.workspace)):
+            self.fault(place, words)
+        if not container.engine():
+            self.fault(place, 'neither docker nor podman answers here')
+        elif not action.is_local:
+            self.contained[place] = action
 
     def of_files(self, action: Action, place: str) -> None:
         """The files that an action of node runs."""

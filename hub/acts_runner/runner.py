@@ -11,9 +11,9 @@ import time
 from dataclasses import asdict, replace
 from typing import Any, Callable, TypeVar
 
-from . import job
 from .facts import Facts
 from .files import present
+from .folders import clear
 from .legs import LegProcess
 from .lines import Port, Session, settle
 from .options import Options
@@ -165,7 +165,7 @@ class Runner:
         process = LegProcess(leg.claim)
         result = self.state.kept.result or self.work(leg, process)
         process.end()
-        job.clear(self.options)
+        clear(self.options)
         if result:
             number = self.state.last + 1
             self.state.keep(result=result, reported=max(number, self.state.kept.reported),

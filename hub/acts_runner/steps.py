@@ -8,13 +8,12 @@ import shutil
 import signal
 import subprocess
 import time
-from dataclasses import dataclass
 from typing import Callable, Mapping, Sequence
 
 from .commands import assignments
-from .container import Container
-from .legs import fields_of, offspring, parents
-from .logs import Log, Reader
+from .container import Place
+from .legs import HELPERS, fields_of, offspring, parents
+from .printed import Listener, Reader
 
 SECONDS_OF_INT, SECONDS_OF_TERM, SECONDS_OF_ORPHANS = 7.5, 2.5, 5
 SECONDS_OF_CLEANUP = 300.0
@@ -52,11 +51,16 @@ def shell_words(shell: str | None, inside: bool = False) -> list[str]:
     return words
 
 
+def paths_in(folder: str) -> dict[str, str]:
+    """The paths of a step's files, by the names of the variables that have them."""
+    return {name: os.path.join(folder, name.lower()) for name in FILES}
+
+
 class Files:
     """The files by which a step hands on variables, outputs, folders of PATH, its state and its summary."""
 
     def __init__(self, folder: str) -> None:
-        self.paths = {name: os.path.join(folder, name.lower()) for name in FILES}
+        self.paths = paths_in(folder)
         for path in self.paths.values():
             with open(path, 'w', encoding='utf-8'):
                 pass
@@ -94,8 +98,8 @@ class Clock:
 
 
 def own() -> set[int]:
-    """All processes below this one."""
-    return offspring({os.getpid()}, parents())
+    """All processes below this one, but the runner's own."""
+    return offspring({os.getpid()}, parents()) - HELPERS
 
 
 def reap(child: int) -> None:
@@ -115,34 +119,26 @@ def kill(others: set[int]) -> None:
         time.sleep(0.02)
 
 
-@dataclass(frozen=True)
-class Inside:
-    """The container in which a process runs, and the file in which it notes its number."""
-
-    container: Container
-    note: str
-
-
 class Process:
     """The first process of a step. Those that it leaves running go on until the leg ends, unless the step is ended."""
 
-    def __init__(self, words: Sequence[str], folder: str, env: Mapping[str, str], log: Log,
-                 inside: Inside | None = None, step: int | None = None, debug: bool = False) -> None:
+    def __init__(self, words: Sequence[str], folder: str, env: Mapping[str, str], to: Listener,
+                 inside: Place | None = None) -> None:
         self.others, self.inside = own(), inside
         self.why: str | None = None
         self.told: int | None = None
         self.since = 0.0
         place: str | None = folder
         if inside:
-            words, place = inside.container.words(words, folder, env, inside.note), None
-            env = {**os.environ, **env}
+            words, env = inside.begun(words, folder, env)
+            place = None
         try:
             self.child = subprocess.Popen(words, cwd=place, env=env, stdin=subprocess.DEVNULL, stdout=subprocess.PIPE,
                                           stderr=subprocess.STDOUT)
         except (OSError, ValueError) as fault:
             raise StepFailed(f'{words[0]} does not start: {fault}') from None
         assert self.child.stdout
-        self.reader = Reader(self.child.stdout, log, step, debug)
+        self.reader = Reader(self.child.stdout, to)
 
     def wait(self, clock: Clock, late: float, goes_on: Callable[[], bool | None]) -> str:
         """How it ended: `success`, `failure` or `cancelled`. `goes_on` says whether the step goes on after a cancel."""
@@ -178,7 +174,7 @@ class Process:
         """Sends a signal."""
         self.told, self.since = what, time.monotonic()
         if self.inside:
-            self.inside.container.tell(self.inside.note, what)
+            self.inside.tell(self.child, what)
             return
         with contextlib.suppress(ProcessLookupError):
             self.child.send_signal(what)
@@ -188,5 +184,5 @@ class Process:
         if not self.inside:
             kill(self.others)
             return
-        self.inside.container.kill()
+        self.inside.kill()
         self.child.kill()

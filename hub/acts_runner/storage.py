@@ -34,6 +34,9 @@ class Storage(Protocol):
     def download(self, name: str, folder: str) -> None:
         """Puts the files of an artifact into a folder."""
 
+    def line_of(self, place: str) -> int | None:
+        """The line of a place in the file of the run's workflow; None if it is not known."""
+
     def close(self) -> None:
         """Closes what is open."""
 
@@ -105,6 +108,10 @@ class FolderStorage:
     def download(self, name: str, folder: str) -> None:
         """Puts the files of an artifact into a folder."""
         shutil.copytree(os.path.join(self.root, name), folder, dirs_exist_ok=True)
+
+    def line_of(self, place: str) -> int | None:
+        """Nobody here has the file."""
+        return None
 
     def close(self) -> None:
         """Nothing is open."""

@@ -6,6 +6,8 @@ import re
 NAME = '[A-Za-z_][A-Za-z0-9_-]*'
 OPERAND = (rf"(?:'(?:[^']|'')*'|(?:github|inputs|vars|strategy|matrix)(?: *\. *{NAME})+|needs *\. *{NAME} *\. *result)")
 PIECE = re.compile(rf' *{OPERAND}(?: *\|\| *{OPERAND})* *')  # what the service accepts between the braces
+LINK = rf"(?:{OPERAND}|(?<![\w.'-])(?:true|false|null|-?[0-9]+(?:\.[0-9]+)?)(?![\w.'-]))"
+CHAIN = re.compile(rf' *{LINK}(?: *\|\| *{LINK})* *')  # the same once constants in it are texts
 OF_A_JOB = re.compile(r'\b(needs|matrix|strategy) *\.')  # what has no value for a whole run
 CONDITIONS = 'success()', 'failure()', 'always()', 'cancelled()', '!cancelled()', 'true', 'false'
 MOST_JOBS = 256
@@ -49,7 +51,7 @@ def advice(number: int | None, text: str) -> str:
                 'and compare needs.ID.result in the `if` of its steps.')
     if number == 26 and re.search(r'\bsuccess\(\)\s*\|\|\s*failure\(\)|\bfailure\(\)\s*\|\|\s*success\(\)', text):
         return 'Write !cancelled() in place of success() || failure().'
-    if number in (17, 25) and re.search(r'\bneeds\b.*\boutputs\b', text):
+    if number in (17, 19, 25) and re.search(r'\bneeds\b.*\boutputs\b', text):
         return ("Write the list in the workflow: a job can't make the matrix of another one here. "
                 'Or let one job go through it in a step.')
     return ADVICE.get(number or 0, '')

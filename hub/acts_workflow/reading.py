@@ -20,9 +20,20 @@ FORMS = (('null', '~|null|Null|NULL|'), ('bool', 'true|True|TRUE|false|False|FAL
 
 
 class Loader(yaml.CSafeLoader):
-    """Plain words as in YAML 1.2 and at GitHub: `on` and `yes` are texts, and `010` is ten. PyYAML follows YAML 1.1."""
+    """Plain words as in YAML 1.2 and at GitHub: `on` and `yes` are texts, and `010` is ten. PyYAML follows YAML 1.1, and
+    takes the last of two members of one name."""
 
     yaml_implicit_resolvers: dict[Any, Any] = {}
+
+    def construct_mapping(self, node: yaml.MappingNode, deep: bool = False) -> dict[Any, Any]:
+        """An object, in which no member is there twice."""
+        seen = set[str]()
+        for key in (key for key, _ in node.value if isinstance(key, yaml.ScalarNode)):
+            if key.value in seen:
+                raise Fault(f'{key.value[:100]} is there twice', line=key.start_mark.line + 1)
+            seen.add(key.value)
+        made: dict[Any, Any] = super().construct_mapping(node, deep)
+        return made
 
 
 def whole_number(_: Loader, node: yaml.ScalarNode) -> int:

@@ -22,35 +22,7 @@ RUNNER = [PYTHON, '-P', '-c', f'import sys; sys.path.insert(0, {ROOT!r}); from a
 NOTED = 'echo began >> "$NOTES"; sleep {}; echo ended >> "$NOTES"'
 TAGGED = 'echo {0} began >> "$NOTES"; sleep {1}; echo {0} ended >> "$NOTES"'
 Act = Callable[..., Any]
-ENGINE = '''#!/usr/bin/python3
-# Stands in for docker: what runs "in" a container runs here, with the variables that are given alone.
-import glob, os, signal, sys
-word, *rest = sys.argv[1:]
-with open(os.environ['NOTES'] + '.engine', 'a') as file:
-    print(word, *rest, file=file)
-if word == 'exec':
-    env = {'PATH': '/usr/bin:/bin', 'STANDS_IN': 'for a container'}
-    while rest[0].startswith('--'):
-        name, value, *rest = rest
-        if name == '--workdir':
-            os.chdir(value)
-        else:
-            env[value] = os.environ[value]
-    os.execvpe(rest[1], rest[1:], env)
-if word == 'inspect':
-    print(open(os.environ['NOTES'] + '.health').read().strip() if os.path.exists(os.environ['NOTES'] + '.health') else 'healthy')
-if word == 'port':
-    print('5432/tcp -> 0.0.0.0:5432')
-if word == 'logs':
-    print('it did not come up')
-if word == 'restart':
-    for path in glob.glob('/proc/[0-9]*/environ'):
-        try:
-            if 'STANDS_IN=for a container' in open(path).read() and os.environ['NOTES'] in open(path).read():
-                os.kill(int(path.split('/')[2]), signal.SIGKILL)
-        except OSError:
-            pass
-'''
+ENGINE = pathlib.Path(__file__).with_name('stand_in_engine.py').read_text()  # stands in for docker
 
 
 def until(holds: Callable[[], Any], seconds: float = 180) -> Any:

@@ -1,13 +1,17 @@
 """acts-hub check: which events start nothing, and what hub, service and runner would refuse of a workflow."""
 from __future__ import annotations
 
+import argparse
+import json
 import os
 import pathlib
 import subprocess
 from collections.abc import Callable
 
 import pytest
+from acts_hub.commands.check import checker_of
 from harness import HUB, PYTHON, acts
+from workflow_table import ROWS, VARIABLES
 
 Check = Callable[..., tuple[int, list[str]]]
 CALLED = '''on: {workflow_call: {inputs: {tag: {type: string}}}}
@@ -119,6 +123,24 @@ jobs:
     assert check(text, '--no-runner') == (0, ['no fault, on refs/heads/main'])
 
 
+def test_what_only_a_run_knows_is_no_fault(check: Check) -> None:
+    """Results and outputs of the jobs before, in a job that runs after failures too."""
+    text = '''on: push
+jobs:
+  a: {runs-on: linux, outputs: {v: "${{ steps.v.outputs.v }}"}, steps: [{id: v, run: 'true'}]}
+  b:
+    needs: [a]
+    if: always()
+    runs-on: linux
+    env: {V: "${{ needs.a.outputs.v }}"}
+    steps:
+      - run: echo "${{ needs.a.result }}"
+      - if: contains(needs.*.result, 'failure')
+        run: exit 1
+'''
+    assert check(text) == (0, ['no fault, on refs/heads/main'])
+
+
 @pytest.mark.parametrize('text, words', [('on: [', 'ci.yml:1: not sent: not YAML'), ('jobs: {}', '`on` is missing'), ('on: push', 'push: '), ('[' * 5000, 'ci.yml:1: '),
                                          ('on: push\njobs: 5', 'push: refused 11 jobs')], ids=range(5))
 def test_files_that_are_none(check: Check, text: str, words: str) -> None:
@@ -137,13 +159,18 @@ def test_a_branch_or_tag_that_is_named(check: Check) -> None:
     assert check(text, '--no-runner')[1][0].endswith('starts nothing on refs/heads/main: it asks for tags alone')
 
 
-def test_starters_are_sent_and_taken() -> None:
-    """The starters of examples, on `main`, with the environment that one of them names: nothing of them is refused."""
-    import argparse
-    from acts_hub.commands.check import checker_of
-    starters = sorted((HUB.parent / 'examples/starters').glob('*.yml'))
-    assert len(starters) >= 20
-    for path in starters:
-        given = argparse.Namespace(file=path, program=acts(), config=None, repository='octo/hello', ref='refs/heads/main', vars=None,
-                                   environment=['production=approval'], pull_request_target=True, no_runner=True, mirrors=None, actions=None)
-        assert [finding.text(path.name) for finding in checker_of(given).findings() if finding.fault] == [], path.name
+def test_examples_are_sent_and_taken(tmp_path: pathlib.Path) -> None:
+    """The workflows of examples, on `main`, with the environments and variables that they name: what is refused of them is what the table says.
+    Not those that need another workflow: in their repository it is beside them."""
+    variables = tmp_path / 'vars'
+    variables.write_text(json.dumps({'octo/hello': VARIABLES}))
+    for row in ROWS:
+        if row.others:
+            continue
+        environments = [f'{name}={way}' for name, way in row.environments.items()]
+        given = argparse.Namespace(file=HUB.parent / 'examples' / row.file, program=acts(), config=None, repository='octo/hello', ref='refs/heads/main',
+                                   vars=variables, environment=environments, pull_request_target=True, no_runner=True, mirrors=None, actions=None,
+                                   secrets=None)
+        faults = [finding.text(row.name) for finding in checker_of(given).findings() if finding.fault]
+        wanted = [row.refused] if row.refused and row.refused.by == 'event' else []
+        assert [fault.split(': ')[0] for fault in faults] == [f'{row.name}:{one.line}' for one in wanted], faults

@@ -71,6 +71,23 @@ def test_a_lock_of_another_holds_up_nobody(made: Database) -> None:
 
 
 @pytest.mark.quick
+def test_once_a_write_is_in_the_file_no_fault_is_left(made: Database, monkeypatch: pytest.MonkeyPatch) -> None:
+    said = made._say
+
+    def said_late(fault: str | None) -> None:
+        time.sleep(0.2)
+        said(fault)
+
+    with contextlib.closing(sqlite3.connect(made.path, isolation_level=None)) as other:
+        other.execute('begin immediate')
+        made.write(ADD, ('while', '1'))
+        until(lambda: made.fault is not None)
+        monkeypatch.setattr(made, '_say', said_late)
+        other.execute('rollback')
+    assert made.flushed() and made.fault is None
+
+
+@pytest.mark.quick
 def test_a_file_that_is_locked_at_the_start_is_waited_for_and_then_done_without(tmp_path: pathlib.Path) -> None:
     path = tmp_path / 'ledger.sqlite'
     first = Database(path)

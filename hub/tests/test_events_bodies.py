@@ -7,7 +7,10 @@ from typing import Any
 
 import pytest
 
-from acts_hub.events.bodies import body_of, encoded
+from acts_hub.events.bodies import Server, Source, body_of, encoded
+from acts_hub.events.occasions import Occasion
+from acts_hub.events.settings import Repository, Settings
+from acts_hub.events.starts import Happening
 from acts_workflow.values import Fault
 
 pytestmark = pytest.mark.quick
@@ -49,3 +52,15 @@ def test_markup_and_odd_characters_pass_as_they_are() -> None:
     text = '<script>alert(1)</script> \u0000 \ud800 ${{ secrets.X }} \u202e'
     sent = json.loads(body_of({'github': {}}, {'title': text}))['github']['event']['title']
     assert sent == text.replace('\ud800', '?')
+
+
+def test_inputs_of_a_run_that_is_started_by_hand() -> None:
+    """GitHub Docs, "Events that trigger workflows", `workflow_dispatch`: `github.event.inputs` has what `inputs` has, as texts."""
+    text = """on: {workflow_dispatch: {inputs: {dry: {type: boolean, default: true}, n: {type: number, default: 1.5}, s: {}, o: {type: choice, options: [a, b]}}}}
+jobs: {a: {runs-on: x, if: "github.event.inputs.dry == 'true' && github.event.inputs.n == '1.5' && github.event.inputs.o == 'b'"}}
+"""
+    occasion = Occasion(Happening('workflow_dispatch'), 'c' * 40, 'c' * 40, 'refs/heads/main')
+    source = Source(Repository('octo/hello', None, False, False, {}, None), occasion, {'inputs': {'o': 'b'}}, {'a.yml': text}, {}, Server('', Settings()))
+    body = json.loads(source.event('a.yml', source.read('a.yml')).body)
+    assert body['inputs'] == {'dry': True, 'n': 1.5, 's': '', 'o': 'b'}
+    assert body['github']['event']['inputs'] == {'dry': 'true', 'n': '1.5', 's': '', 'o': 'b'} and body['workflow']['jobs']['a']['if'] is True

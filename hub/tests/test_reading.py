@@ -69,3 +69,15 @@ def test_the_largest_that_is_read_takes_seconds_at_most() -> None:
     began = time.process_time()
     read('jobs:\n' + ''.join(f'  job_{n}: {{runs-on: linux}}\n' for n in range(10_000)))
     assert time.process_time() - began < 5
+
+
+@pytest.mark.parametrize('text, line', [('a: 1\nb: 2\na: 3\n', 3), ('jobs:\n  a: {x: 1}\n  b: 1\n  "a": 2\n', 4), ('a: {b: [{c: 1, c: 2}]}', 1), ('1: a\n"1": b\n', 2)])
+def test_a_member_that_is_there_twice(text: str, line: int) -> None:
+    """GitHub refuses such a file; the last one would count for PyYAML."""
+    with pytest.raises(Fault, match='is there twice') as raised:
+        read(text)
+    assert raised.value.line == line
+
+
+def test_members_of_an_alias() -> None:
+    assert read('a: &x {b: 1}\nc: *x\nd: {e: *x, f: *x}') == {'a': {'b': 1}, 'c': {'b': 1}, 'd': {'e': {'b': 1}, 'f': {'b': 1}}}

@@ -7,6 +7,10 @@ import pathlib
 import subprocess
 from typing import Any
 
+import pytest
+from acts_runner.builtin import builtin_of
+from acts_runner.builtin.setup import Found, newest
+from acts_runner.options import Options
 from runner_trials import ENGINE, Case, git, lines_of, mirror, until
 
 CHECKOUT: dict[str, Any] = {'uses': 'actions/checkout@v4'}
@@ -125,11 +129,20 @@ def test_checkout_with_submodules(case: Case) -> None:
 
 def test_checkout_refuses(case: Case) -> None:
     sha = mirror(case.folder, 'octo/hello', {'there': ''})
-    steps = [{**CHECKOUT, 'with': {'lfs': 'true'}}, {**CHECKOUT, 'with': {'sparse-checkout': 'a'}}, {**CHECKOUT, 'with': {'ssh-key': 'x'}},
+    steps = [{**CHECKOUT, 'with': {'lfs': 'true'}}, {**CHECKOUT, 'with': {'sparse-checkout': 'a\n--cone'}}, {**CHECKOUT, 'with': {'ssh-key': 'x'}},
              {**CHECKOUT, 'with': {'fetch-depth': 'all'}}, {**CHECKOUT, 'with': {'submodules': 'some'}}]
     run(case, steps, '--mirrors', case.folder, sha=sha, result='failure')
-    for number, words in enumerate(('its input lfs', 'its input sparse-checkout', 'its input ssh-key', 'fetch-depth is all', 'submodules is none of')):
+    for number, words in enumerate(('its input lfs', 'sparse-checkout has --cone, which is no folder', 'its input ssh-key', 'fetch-depth is all', 'submodules is none of')):
         assert any(f'steps[{number}].uses' in line and words in line for line in case.said()), words
+
+
+def test_checkout_of_some_folders(case: Case) -> None:
+    """README of checkout: folders with the files above them, or patterns alone; all again without the input."""
+    sha = mirror(case.folder, 'octo/hello', {'top': '', 'a/one': '', 'a/deep/two': '', 'b/three': ''})
+    look = {'run': 'git ls-files -t | sed -n "s/^H //p" | tr "\\n" " " >> "$NOTES"; find . -name .git -prune -o -type f -print | wc -l >> "$NOTES"'}
+    steps = [step for given in ({'sparse-checkout': 'a/deep\n'}, {'sparse-checkout': '/b/*\n', 'sparse-checkout-cone-mode': 'false'}, {})
+             for step in ({**CHECKOUT, 'with': given}, look)]
+    assert run(case, steps, '--mirrors', case.folder, sha=sha) == ['a/deep/two a/one top 3', 'b/three 1', 'a/deep/two a/one b/three top 4']
 
 
 def test_checkout_of_paths_outside(case: Case) -> None:
@@ -137,6 +150,19 @@ def test_checkout_of_paths_outside(case: Case) -> None:
     steps = [{**CHECKOUT, 'with': {'path': '../../out'}, 'continue-on-error': True}, {**CHECKOUT, 'with': {'repository': '../x/y'}, 'continue-on-error': True}]
     run(case, steps, '--mirrors', case.folder, sha=sha)
     assert any('is not below the workspace' in line for line in case.said()) and any('../x/y is no owner/name' in line for line in case.said())
+
+
+# What the runner does itself.
+
+
+@pytest.mark.quick
+def test_versions_of_artifacts() -> None:
+    """Those before 4 are refused; an action of a name like theirs is another one."""
+    options = Options(name='r1', labels='linux')
+    for uses in 'actions/upload-artifact@v3', 'actions/download-artifact@v2':
+        with pytest.raises(ValueError, match='version 4'):
+            builtin_of(uses, options)
+    assert builtin_of('actions/upload-artifact@v4', options) and builtin_of('actions/upload-pages-artifact@v3', options) is None
 
 
 # Tools.
@@ -168,14 +194,75 @@ def test_tools_of_the_cache(case: Case) -> None:
         'Python 3.9.18 Python/3.9.18/x64']
 
 
+@pytest.mark.quick
+@pytest.mark.parametrize('wanted, version', [
+    ('lts/*', '22.12.0'), ('lts/iron', '20.18.1'), ('lts/Hydrogen', '18.20.4'), ('lts/krypton', None), ('latest', '23.5.0'), ('current', '23.5.0'), ('*', '23.5.0'),
+    ('oldstable', '22.12.0'), ('>=18 <23', '22.12.0'), ('lts/* || 23', '23.5.0'), ('24', None), ('iron', None), ('--help', None), ('', '23.5.0')])
+def test_names_of_versions(wanted: str, version: str | None) -> None:
+    """README of setup-node: `lts/*`, `lts/NAME` and `latest`; of setup-go: `oldstable`. A name is never any other version."""
+    there = [Found(each, None) for each in ('23.5.0', '22.12.0', '20.18.1', '18.20.4')]
+    found = newest(wanted, there)
+    assert (found.version if found else None) == version
+
+
 def test_tools_that_are_refused(case: Case) -> None:
     """Before the first step, and no input is ignored in silence that would change what steps get."""
-    steps = [{'uses': 'actions/setup-node@v4', 'with': {'node-version': '14.x'}}, {'uses': 'actions/setup-node@v4', 'with': {'registry-url': 'https://x.example'}},
-             {'uses': 'actions/setup-node@v4', 'with': {'scope': '@octo'}}, {'uses': 'actions/setup-node@v4', 'with': {'node-version': '18', 'architecture': 'arm64'}}, NEVER]
+    steps = [{'uses': 'actions/setup-node@v4', 'with': {'node-version': '14.x'}}, {'uses': 'actions/setup-python@v5', 'with': {'registry-url': 'https://x.example'}},
+             {'uses': 'actions/setup-go@v5', 'with': {'distribution': 'zulu'}}, {'uses': 'actions/setup-node@v4', 'with': {'node-version': '18', 'architecture': 'arm64'}},
+             {'uses': 'actions/setup-java@v4', 'with': {'distribution': 'mine', 'java-version': '17'}}, NEVER]
     run(case, steps, '--tool-cache', tool_cache(case), result='failure')
-    for number, words in enumerate(('not 14.x', 'its input registry-url', 'its input scope', 'for arm64')):
+    for number, words in enumerate(('not 14.x', 'its input registry-url', 'its input distribution', 'for arm64', 'the distribution mine is not known')):
         assert any(f'steps[{number}].uses' in line and words in line for line in case.said()), f'{words}: {case.said()}'
     assert case.noted() == []
+
+
+def test_a_command_of_the_operators_installs_what_lacks(case: Case) -> None:
+    """Once, before the first step; what it does not make, and what is no version, is refused."""
+    command = pathlib.Path(case.folder, 'install')
+    command.write_text(f'''#!/bin/sh
+echo "$*" >> {case.folder}/asked
+case "$2" in 23.x) ;; 99) echo "there is no $2"; exit 3 ;; *) exit 0 ;; esac
+mkdir -p "$4/23.5.0/$3/bin" && touch "$4/23.5.0/$3.complete"
+printf '#!/bin/sh\\necho made\\n' > "$4/23.5.0/$3/bin/node" && chmod +x "$4/23.5.0/$3/bin/node"
+''')
+    command.chmod(0o755)
+    cache = tool_cache(case)
+    words = '--tool-cache', cache, '--install', str(command)
+
+    def node(version: str) -> dict[str, Any]:
+        return {'uses': 'actions/setup-node@v4', 'with': {'node-version': version}}
+    assert run(case, [node('23.x'), {'run': 'node >> "$NOTES"'}, node('23')], *words) == ['made']
+    assert lines_of(f'{case.folder}/asked') == [f'node 23.x x64 {cache}/node']
+    run(case, [NEVER, node('99'), node('98'), node('--help')], *words, result='failure')
+    for number, text in enumerate(('node 99 is not installed', 'not 98', 'not --help'), 1):
+        assert any(f'steps[{number}].uses' in line and text in line for line in case.said()), f'{text}: {case.said()}'
+    assert lines_of(f'{case.folder}/asked')[1:] == [f'node 99 x64 {cache}/node', f'node 98 x64 {cache}/node'] and case.noted() == ['made']
+
+
+def test_distributions_of_java(case: Case) -> None:
+    """Each has a folder of its own in GitHub's layout, with the newest version that fits."""
+    top = pathlib.Path(tool_cache(case))
+    for folder, version in (('Java_Zulu_jdk', '17.0.13-11'), ('Java_Zulu_jdk', '17.0.9-8'), ('Java_Temurin-Hotspot_jdk', '17.0.12-7'), ('Java_Temurin-Hotspot_jdk', '21.0.5-11')):
+        (top / folder / version / 'x64').mkdir(parents=True)
+        (top / folder / version / 'x64.complete').touch()
+    steps = list[dict[str, Any]]()
+    for name in 'zulu', 'temurin':
+        steps += [{'uses': 'actions/setup-java@v4', 'with': {'distribution': name, 'java-version': 17}}, {'run': 'echo "${JAVA_HOME#*/cache/}" >> "$NOTES"'}]
+    assert run(case, steps, '--tool-cache', str(top)) == ['Java_Zulu_jdk/17.0.13-11/x64', 'Java_Temurin-Hotspot_jdk/17.0.12-7/x64']
+
+
+def test_a_registry_of_npm(case: Case) -> None:
+    """GitHub Docs, "Publishing Node.js packages": the file that `.npmrc` is for npm, a scope, and the token that a step gives."""
+    look: dict[str, Any] = {'run': 'sed "s/^/$NODE_AUTH_TOKEN /" "$NPM_CONFIG_USERCONFIG" >> "$NOTES"'}
+    steps = [{'uses': 'actions/setup-node@v4', 'with': {'node-version': '18', 'registry-url': 'https://registry.example.org'}}, look,
+             {'uses': 'actions/setup-node@v4', 'with': {'node-version': '18', 'registry-url': 'https://npm.pkg.github.com/', 'scope': '@Mona', 'always-auth': 'true'}},
+             {**look, 'env': {'NODE_AUTH_TOKEN': 'hush'}},
+             {'uses': 'actions/setup-node@v4', 'with': {'node-version': '18', 'registry-url': 'https://npm.pkg.github.com'}}, {'run': 'sed -n 2p "$NPM_CONFIG_USERCONFIG" >> "$NOTES"'}]
+    none = 'XXXXX-XXXXX-XXXXX-XXXXX'
+    assert run(case, steps, '--tool-cache', tool_cache(case)) == [
+        f'{none} //registry.example.org/:_authToken=${{NODE_AUTH_TOKEN}}', f'{none} registry=https://registry.example.org/', f'{none} always-auth=false',
+        'hush //npm.pkg.github.com/:_authToken=${NODE_AUTH_TOKEN}', 'hush @mona:registry=https://npm.pkg.github.com/', 'hush always-auth=true',
+        '@octo:registry=https://npm.pkg.github.com/']
 
 
 # Actions from elsewhere.
@@ -213,9 +300,9 @@ def test_actions_that_are_not_there(case: Case) -> None:
     place = os.path.join(case.folder, 'remote')
     mirror(place, 'octo/say', said_by('first'), tags=('v1',))
     words = '--actions-from', f'file://{place}/{{owner}}/{{repo}}.git'
-    uses = 'octo/say@v9', 'octo/none@v1', 'octo/../say@v1', '--upload-pack=x/y@v1', 'docker://alpine'
+    uses = 'octo/say@v9', 'octo/none@v1', 'octo/../say@v1', '--upload-pack=x/y@v1'
     run(case, [NEVER, *({'uses': one} for one in uses)], *words, result='failure')
-    for number, text in enumerate(('has no tag or branch v9', 'octo/none', 'is no owner/name@ref', 'is no owner/name@ref', 'no actions of docker'), 1):
+    for number, text in enumerate(('has no tag or branch v9', 'octo/none', 'is no owner/name@ref', 'is no owner/name@ref'), 1):
         assert any(f'steps[{number}]' in line and text in line for line in case.said()), f'{text}: {case.said()}'
     pathlib.Path(case.home(), 'actions.lock').write_text(json.dumps({'octo/say@v1': '1' * 40}))
     run(case, [NEVER, {'uses': 'octo/say@v1'}], *words, result='failure')

@@ -77,6 +77,17 @@ def test_a_name_of_an_artifact_is_taken_once_unless_it_is_overwritten(database: 
     assert len(files_below(store.folder)) == 2
 
 
+def test_artifacts_of_one_moment_stay_in_the_order_in_which_they_came(database: Database, monkeypatch: pytest.MonkeyPatch) -> None:
+    monkeypatch.setattr('acts_hub.ledger.artifacts.now', lambda: 1_000)
+    store = artifacts(database)
+    for name in ('late', 'dist', 'zip', 'a'):
+        upload(store, 1, 1, name, b'a')
+    upload(store, 1, 1, 'dist', b'b', overwrite=True)
+    assert [one.name for one in store.list(1)] == ['late', 'zip', 'a', 'dist']
+    database.flushed()
+    assert [one.name for one in artifacts(database).list(1)] == ['late', 'zip', 'a', 'dist']
+
+
 @pytest.mark.parametrize('name', ['', 'a/b', 'a\\b', '..\\x', 'a:b', 'a"b', 'a<b', 'a>b', 'a|b', 'a*b', 'a?b', 'a\nb', 'a\rb', 'a\0b', 'x' * 256, 'ä' * 128])
 def test_names_of_artifacts_that_github_refuses(database: Database, name: str) -> None:
     with pytest.raises(ArtifactError, match='no name'):

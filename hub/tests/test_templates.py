@@ -91,10 +91,64 @@ def test_called_workflows(others: str, members: str, head: str, jobs: str, wante
     known = Folding({'github': {'ref': 'r', 'event': {}}, 'inputs': {}, 'vars': {}}, {'free': False}, files.get)
     text = f'on: push\njobs:\n  {others}\n  c: {{uses: ./.github/workflows/c.yml{members and ", " + members}}}'
     try:
-        got = known.sent(read(text))['jobs']
+        sent = known.sent(read(text))['jobs']
+        assert all(('name' in job) == ('__' in id and 'c__a: ' not in others) for id, job in sent.items())
+        got: Any = {id: {member: value for member, value in job.items() if member != 'name'} for id, job in sent.items()}
     except Fault as fault:
         got = str(fault)
     assert got == wanted
+
+
+@pytest.mark.parametrize('members, jobs, wanted', [
+    ('', 'a: {runs-on: x}', {'c__a': 'c / a'}), ('name: Ship', 'a: {runs-on: x, name: "Build ${{ inputs.n }}"}', {'c__a': 'Ship / Build ${{ 1 }}'}),
+    ('strategy: {matrix: {v: [1, 2]}, fail-fast: false}', 'a: {runs-on: x}, b: {runs-on: x}',
+     {'c__0__a': 'c (1) / a', 'c__0__b': 'c (1) / b', 'c__1__a': 'c (2) / a', 'c__1__b': 'c (2) / b'}),
+    ('name: "On ${{ matrix.v }}", strategy: {matrix: {v: [1], w: [2]}}', 'a: {runs-on: x}, b: {runs-on: x}', {'c__0__a': 'On 1 / a', 'c__0__b': 'On 1 / b'})])
+def test_names_of_called_jobs(members: str, jobs: str, wanted: dict[str, str]) -> None:
+    """GitHub Docs, "Reuse workflows" and "Running variations of jobs in a workflow": the name of the call, its combination, and the job's own."""
+    files = {'.github/workflows/c.yml': f'{CALLED}\njobs: {{{jobs}}}'}
+    text = f'on: push\njobs:\n  c: {{uses: ./.github/workflows/c.yml{members and ", " + members}}}'
+    sent = Folding({'github': {}, 'inputs': {}, 'vars': {}}, {}, files.get).sent(read(text))['jobs']
+    assert {id: job['name'] for id, job in sent.items()} == wanted
+
+
+OUTPUTS = """on: {workflow_call: {outputs: {Tag: {value: "${{ jobs.a.outputs.t }}"}, none: {value: "${{ jobs.off.outputs.t }}"}, two: {value: "${{ jobs.a.outputs.t }}-x"},
+     deep: {value: "${{ jobs.inner.outputs.t }}"}, lost: {value: "${{ jobs.nobody.outputs.t }}"}}}}
+jobs:
+  a: {runs-on: x, outputs: {t: "${{ steps.s.outputs.t }}"}}
+  off: {runs-on: x, if: false}
+"""
+
+
+@pytest.mark.parametrize('members, text, wanted', [
+    ('', '${{ needs.c.outputs.tag }}', '${{ needs.c__a.outputs.t }}'), ('', 'v${{ format(\'needs {0}\', needs.c.outputs.TAG) }}',
+     "v${{ format('needs {0}', needs.c__a.outputs.t) }}"),
+    ('', '${{ needs.c.outputs.none }}${{ needs.c.outputs.other }}', '${{ null }}${{ null }}'), ('', '${{ needs.d.outputs.tag }}', '${{ needs.d.outputs.tag }}'),
+    ('', '${{ needs.c.outputs.two }}', 'jobs.j: it asks for needs.c, which calls a workflow'), ('', '${{ needs.c.outputs.lost }}', 'jobs.j: it asks for needs.c'),
+    ('', '${{ toJSON(needs.c.outputs) }}', 'jobs.j: it asks for needs.c'), ('', '${{ needs.c.result }}', 'jobs.j: it asks for needs.c'),
+    ('', "${{ needs.c['outputs'].tag }}", 'jobs.j: it asks for needs.c'),
+    (', strategy: {matrix: {v: [1, 2]}, fail-fast: false}', '${{ needs.c.outputs.tag }}', 'jobs.j: it asks for needs.c')], ids=range(10))
+def test_outputs_of_calls(members: str, text: str, wanted: str) -> None:
+    """GitHub Docs, "Reuse workflows", "Using outputs from a reusable workflow"."""
+    workflow = f'on: push\njobs:\n  c: {{uses: ./.github/workflows/c.yml{members}}}\n  j: {{needs: c, runs-on: x}}'
+    read_workflow = read(workflow)
+    read_workflow['jobs']['j'] |= {'env': {'A': text}, 'steps': [{'run': text, 'if': 'needs.c.outputs.tag == 1'}]}
+    known = Folding({'github': {}}, {}, {'.github/workflows/c.yml': OUTPUTS}.get)
+    try:
+        job = known.workflow(read_workflow)['jobs']['j']
+    except Fault as fault:
+        assert str(fault).startswith(wanted)
+        return
+    assert job['env']['A'] == job['steps'][0]['run'] == wanted and job['steps'][0]['if'] == 'needs.c__a.outputs.t == 1' and job['needs'] == ['c__a']
+
+
+def test_outputs_of_a_call_in_a_call_are_not_known() -> None:
+    """They are asked for by no name that the jobs here have."""
+    files = {'c.yml': OUTPUTS + '  inner: {uses: ./.github/workflows/d.yml}\n', 'd.yml': 'on: workflow_call\njobs: {z: {runs-on: x}}'}
+    placed = {f'.github/workflows/{name}': text for name, text in files.items()}
+    known = Folding({'github': {}}, {}, placed.get)
+    with pytest.raises(Fault, match='jobs.j: it asks for needs.c'):
+        known.workflow(read('on: push\njobs:\n  c: {uses: ./.github/workflows/c.yml}\n  j: {needs: c, runs-on: x, env: {A: "${{ needs.c.outputs.deep }}"}}'))
 
 
 def test_calls_of_what_is_not_there() -> None:
@@ -114,6 +168,23 @@ def test_a_call_reads_nothing_but_workflows(uses: str) -> None:
     assert asked == [] and [note.number for note in known.notes] == [16]
 
 
+def test_permissions_of_called_jobs() -> None:
+    """GitHub Docs, "Reuse workflows": those of the job itself, of its workflow, or of the call."""
+    called = """on: workflow_call
+jobs:
+  own: {runs-on: x, permissions: {contents: read}}
+  none: {runs-on: x}
+"""
+    call = {'uses': './.github/workflows/c.yml', 'permissions': {'id-token': 'write'}}
+    for more, wanted in (('', {'id-token': 'write'}), ('permissions: {packages: write}\n', {'packages': 'write'})):
+        files = {'.github/workflows/c.yml': called + more}
+        jobs = Folding({'github': {}}, {}, files.get).workflow({'jobs': {'c': call}})['jobs']
+        assert jobs['c__own']['permissions'] == {'contents': 'read'} and jobs['c__none']['permissions'] == wanted
+    files = {'.github/workflows/c.yml': called}
+    jobs = Folding({'github': {}}, {}, files.get).workflow({'jobs': {'c': {'uses': './.github/workflows/c.yml'}}})['jobs']
+    assert 'permissions' not in jobs['c__none']
+
+
 CONTEXTS: dict[str, Any] = {
     'github': {'head_ref': "a${{x}}'b", 'ref_name': 'main', 'event': {'labels': ['a'], 'ratio': 0.5}}, 'inputs': {'ratio': 1.5, 'off': False},
     'vars': {'OS': '["a", "b"]'}}
@@ -123,10 +194,19 @@ CONTEXTS: dict[str, Any] = {
     ('${{ github.head_ref }}', "${{ 'a${{x}}''b' }}"), ('to-${{ github.ref_name }}', 'to-main'), ("${{ github.ref_name == 'main' }}", 'true'),
     ('${{ fromJSON(vars.OS) }}', ['a', 'b']), ('${{ matrix.os }}-${{ github.ref_name }}', '${{ matrix.os }}-main'),
     ('v${{ github.event.ratio }}', 'v0.5'), ('x${{ github.event }}', 'xObject'), ('${{ matrix.os || inputs.ratio }}', "${{ matrix.os || '1.5' }}"),
-    ('${{ matrix.os || inputs.off }}', "${{ matrix.os || 'false' }}"),
+    ('${{ matrix.os || inputs.off }}', "${{ matrix.os || 'false' }}"), ('${{ matrix.experimental || false }}', "${{ matrix.experimental || 'false' }}"),
+    ("${{ matrix.n || 0 || null || 2.50 || 'x' }}", "${{ matrix.n || '2.5' }}"), ("${{ matrix.n || 'a || 5' || true }}", "${{ matrix.n || 'a || 5' }}"),
     ('${{ inputs.off || matrix.os || github.event.labels || vars.x }}', "${{ matrix.os || 'Array' }}")])
 def test_templates(text: str, wanted: Any) -> None:
     assert Folding(CONTEXTS).template(text, 'jobs.a.runs-on') == wanted
+
+
+@pytest.mark.parametrize('text, place', [('${{ matrix.a && true }}', 'runs-on'), ('${{ matrix.a || true.x }}', 'runs-on'), ('${{ matrix.a || f(1) }}', 'runs-on'),
+                                         ('${{ matrix.a || false }}', 'strategy.fail-fast'), ('${{ needs.a.outputs.n || 1 }}', 'runs-on')])
+def test_pieces_that_the_service_does_not_take(text: str, place: str) -> None:
+    known = Folding(CONTEXTS)
+    known.template(text, f'jobs.a.{place}')
+    assert [(note.number, note.text) for note in known.notes] == [(17, text)]
 
 
 def test_a_list_in_a_group_is_a_text() -> None:

@@ -57,6 +57,11 @@ class Access:
         token = self._verified(secret, client) if secret else None
         return token.identity() if token else None
 
+    def of_secret(self, request: web.Request, secret: str) -> Identity | None:
+        """Whose token a secret is that came in another way than by the header; 429 for too many wrong ones."""
+        token = self._verified(secret, client_of(request, self.config.access.trusted_forwarders)) if secret else None
+        return token.identity() if token else None
+
     def _verified(self, secret: str, client: str) -> Token | None:
         """The token of a secret. A client that has sent too many wrong ones waits, but for tokens that were right from there before."""
         token = self.tokens.verify(secret)

@@ -31,6 +31,7 @@ def add(parsers: Any) -> None:
     parser.add_argument('--no-runner', action='store_true', help='leave out what a runner would refuse')
     parser.add_argument('--mirrors', metavar='FOLDER', help="the runner's mirrors, for actions/checkout")
     parser.add_argument('--actions', metavar='FOLDER', help="the runner's mirrors of actions")
+    parser.add_argument('--secrets', metavar='FILE', help="the runner's file of secrets")
     parser.set_defaults(run=run)
 
 
@@ -64,7 +65,7 @@ def checker_of(given: argparse.Namespace) -> Checker:
         if other.is_file() and not other.is_symlink():
             texts.setdefault(str(other.relative_to(folder)), read(other))
     runner = Options(name='check', labels='check', mirrors=given.mirrors, actions=given.actions,
-                     environment=tuple(repository.environments))
+                     secrets=given.secrets, environment=tuple(repository.environments))
     return Checker(folder, name, ref, repository, variables, given.program, None if given.no_runner else runner, texts)
 
 

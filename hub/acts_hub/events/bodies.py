@@ -6,7 +6,7 @@ import re
 from dataclasses import dataclass
 from typing import Any, Callable, Mapping
 
-from acts_workflow import filters, inputs, profile, reading
+from acts_workflow import filters, inputs, members, profile, reading
 from acts_workflow.filters import chosen
 from acts_workflow.values import Fault, Known, text_of
 
@@ -62,6 +62,8 @@ def context(occasion: Occasion, payload: Mapping[str, Any], workflow: Tree, path
     made |= {'event_name': occasion.happening.event, 'repository': name, 'repository_owner': name.split('/')[0],
              'workflow': text_of(workflow.get('name')) or path, 'workflow_ref': f'{name}/{path}@{occasion.ref}',
              'workflow_sha': occasion.commit, 'actor': actor, 'triggering_actor': actor}
+    if isinstance(address := at(payload, 'repository', 'git_url'), str):
+        made['repositoryUrl'] = address
     if repository.protected is not None:
         is_branch = occasion.ref.startswith('refs/heads/')
         made['ref_protected'] = is_branch and chosen(made['ref_name'], list(repository.protected))
@@ -139,8 +141,12 @@ class Source:
 
     def event(self, path: str, workflow: Tree) -> Sent:
         """The event for a workflow. What must not be sent is a `Fault`."""
-        github = context(self.occasion, self.payload, workflow, path, self.repository, self.server)
-        contexts: Tree = {'github': github, 'inputs': self.inputs(workflow), 'vars': self.variables}
+        members.check(workflow)
+        given = self.inputs(workflow)
+        payload = {**self.payload, 'inputs': {name: text_of(value) for name, value in given.items()}} if given \
+            else self.payload  # GitHub has them there as texts
+        github = context(self.occasion, payload, workflow, path, self.repository, self.server)
+        contexts: Tree = {'github': github, 'inputs': given, 'vars': self.variables}
         known = Folding(contexts, self.repository.environments, self.texts.get)
         try:
             folded = known.sent(workflow)
@@ -149,4 +155,4 @@ class Source:
         if isinstance(folded.get('run-name'), str) and '${{' not in folded['run-name']:
             github['run_name'] = folded['run-name']
         envelope = {'repo': self.repository.name, 'path': path, 'workflow': folded, **contexts}
-        return Sent(body_of(envelope, self.payload), tuple(known.notes), folded)
+        return Sent(body_of(envelope, payload), tuple(known.notes), folded)

@@ -6,14 +6,15 @@ import re
 from typing import TYPE_CHECKING, Any, Iterable, Mapping
 
 from acts_workflow import inputs, matrices
-from acts_workflow.expressions import parts
+from acts_workflow import members as syntax
+from acts_workflow.expressions import parts, whole
 from acts_workflow.filters import as_list, triggers_of
 from acts_workflow.matrices import Row
-from acts_workflow.profile import MOST_JOBS
-from acts_workflow.values import Fault, Unknown, Value
+from acts_workflow.profile import MOST_JOBS, NAME
+from acts_workflow.values import Fault, Unknown, Value, text_of
 
 from . import passing
-from .replacing import Replaced, secrets_of
+from .replacing import OutputsOfCalls, Replaced, secrets_of
 
 if TYPE_CHECKING:
     from .templates import Folding
@@ -22,6 +23,7 @@ LOCAL = re.compile(r'\./(\.github/workflows/[^/@]+\.ya?ml)')
 DEEPEST = 10  # workflows that call one another: GitHub's limit
 OWN_CONDITIONS = 'always()', 'failure()', 'cancelled()', '!cancelled()'  # of the service, besides `success()`
 RUN_ON_SUCCESS = True, 'success()', 'always()', '!cancelled()'  # of jobs that run if all before them have succeeded
+JOB_OUTPUT = re.compile(rf'jobs\s*\.\s*({NAME})\s*\.\s*outputs\s*\.\s*({NAME})')
 OWN = re.compile(r"'[^']*'|(?<![\w.-])(matrix|strategy)(?![\w-])", re.I)  # what names the matrix in an expression
 Tree = dict[str, Any]
 Jobs = dict[str, Any]
@@ -49,8 +51,10 @@ def in_place(workflow: Tree, known: Folding) -> Tree:
     if not placed:
         return workflow
     made: Jobs = {}
+    rewritten = OutputsOfCalls({name: outputs_of(name, jobs[name], placed[name], known) for name in placed})
     for name, job in jobs.items():
         if isinstance(job, dict):
+            job = job if name in placed else rewritten.job(job)
             check_needs(name, job, placed)
         group = placed.get(name) or {name: with_settings(workflow, job) if isinstance(job, dict) else job}
         if made.keys() & group.keys():
@@ -58,6 +62,23 @@ def in_place(workflow: Tree, known: Folding) -> Tree:
         made |= {place: with_needs(inner, job, placed, name in placed) if isinstance(inner, dict) else inner
                  for place, inner in group.items()}
     return {**{name: value for name, value in workflow.items() if name not in ('env', 'defaults')}, 'jobs': made}
+
+
+def outputs_of(name: str, job: Tree, placed: Jobs, known: Folding) -> dict[str, str]:
+    """The expression for each output of a call, by its name in small letters: one of a job that is left out, since it
+    is skipped, is null. What is no output of one job stays as it is, and is a fault where it is asked for."""
+    called = known.called(path_of(job) or '')
+    said = triggers_of(called.get('on'))['workflow_call'].get('outputs')
+    found: dict[str, str] = {}
+    for output, form in said.items() if isinstance(said, dict) else ():
+        value = whole(str(form.get('value'))) if isinstance(form, dict) else None
+        of_job = JOB_OUTPUT.fullmatch(value.strip()) if value and 'strategy' not in job else None
+        if not of_job or 'uses' in called['jobs'].get(of_job[1], {'uses': ''}):
+            found[output.lower()] = f'needs.{name}.outputs.{output}'
+            continue
+        id = f'{name}__{of_job[1]}'
+        found[output.lower()] = f'needs.{id}.outputs.{of_job[2]}' if id in placed else 'null'
+    return found
 
 
 def check_needs(name: str, job: Tree, placed: Mapping[str, Jobs]) -> None:
@@ -85,6 +106,11 @@ def with_settings(workflow: Tree, job: Tree) -> Tree:
     return {**job, **{name: value for name, value in given.items() if value}}
 
 
+def with_permissions(inner: Tree, *above: Tree) -> Tree:
+    """The job with the permissions of the nearest that says some: itself, its workflow, or the job that calls that."""
+    return next(({**inner, 'permissions': of['permissions']} for of in (inner, *above) if 'permissions' in of), inner)
+
+
 def members(of: Tree, name: str) -> Tree:
     """The object that a member is; an empty one without it."""
     value = of.get(name) or {}
@@ -107,6 +133,7 @@ def called_jobs(name: str, job: Tree, known: Folding) -> Jobs:
         raise Fault(f'{path} has no jobs, or one that is no object', f'{place}.uses')
     if len(jobs) > MOST_JOBS:
         raise Fault(f'over {MOST_JOBS} jobs of called workflows', place)
+    check_members(called, path, place)
     forms = inputs.forms_of(on['workflow_call'].get('inputs'))
     unknown = [given for given in members(job, 'with') if given not in forms]
     if unknown:
@@ -116,6 +143,28 @@ def called_jobs(name: str, job: Tree, known: Folding) -> Jobs:
         return jobs_of_call(name, job, called, known, passing.inputs_of_call(job, forms, known, place)[0][0])
     placing = one_job if is_one_job(called) else jobs_of_rows
     return placing(name, job, rows, called, forms, known)
+
+
+def check_members(called: Tree, path: str, place: str) -> None:
+    """Faults a member of a called workflow that GitHub does not have."""
+    try:
+        syntax.check(called)
+    except Fault as fault:
+        raise Fault(f'{path}: {fault}', f'{place}.uses') from None
+
+
+def check_secrets(job: Tree, called: Tree, place: str) -> None:
+    """Faults a secret that the called workflow requires and does not get, and one that it does not name."""
+    if job.get('secrets') == 'inherit':
+        return
+    given, named = members(job, 'secrets'), members(triggers_of(called.get('on'))['workflow_call'], 'secrets')
+    got, known = {name.lower() for name in given}, {name.lower() for name in named}
+    for name, form in named.items():
+        if isinstance(form, dict) and form.get('required') is True and name.lower() not in got:
+            raise Fault(f'the called workflow requires the secret {name}', f'{place}.secrets' if given else place)
+    for name in given:
+        if name.lower() not in known:
+            raise Fault('the called workflow has no such secret', f'{place}.secrets.{name}')
 
 
 def rows_of(job: Tree, place: str) -> list[Row] | None:
@@ -155,13 +204,21 @@ def jobs_of_call(name: str, job: Tree, called: Tree, known: Folding, given: Mapp
     workflow = inner.workflow(called)
     known.notes += [type(note)(note.number, f'{place}: {path_of(job)}: {note.place}', note.text)
                     for note in inner.notes]
-    jobs = without_skipped({id: with_settings(workflow, each) for id, each in workflow['jobs'].items()})
+    own = {id: with_permissions(with_settings(workflow, each), workflow, job) for id, each in workflow['jobs'].items()}
+    jobs = without_skipped(own)
     jobs = conditioned(one_group(jobs, job, workflow, place), job, place)
     ids = {id: f'{name}__{id}' for id in jobs}
-    replaced = Replaced(given, secrets_of(job, place), ids, workflow['jobs'].keys() - jobs.keys(), place)
-    made = {f'{name}__{id}': replaced.job(each) for id, each in jobs.items()}
+    secrets = secrets_of(job, place)
+    check_secrets(job, called, place)
+    replaced = Replaced(given, secrets, ids, workflow['jobs'].keys() - jobs.keys(), place)
+    made = {f'{name}__{id}': named(replaced.job(each), id, job, name) for id, each in jobs.items()}
     passing.check_outputs(made, given, place)
     return made
+
+
+def named(inner: Tree, id: str, call: Tree, caller: str) -> Tree:
+    """The job under the name that GitHub shows: that of the call, and its own."""
+    return {**inner, 'name': f'{text_of(call.get("name")) or caller} / {text_of(inner.get("name")) or id}'}
 
 
 def one_job(name: str, job: Tree, rows: list[Row], called: Tree, forms: Mapping[str, Tree], known: Folding) -> Jobs:
@@ -191,7 +248,7 @@ def jobs_of_rows(name: str, job: Tree, rows: list[Row], called: Tree, forms: Map
     groups: list[Jobs] = []
     for number, row in enumerate(rows):
         there = known.beside({'matrix': row})
-        call = call_of(job, there)
+        call = call_of(name, job, there, row)
         given = passing.inputs_of_call(call, forms, there, place)[0][0]
         groups.append(jobs_of_call(f'{name}__{number}', call, called, known, given))
         if sum(map(len, groups)) > MOST_JOBS:
@@ -200,9 +257,11 @@ def jobs_of_rows(name: str, job: Tree, rows: list[Row], called: Tree, forms: Map
     return {id: inner for jobs in left or groups for id, inner in jobs.items()}
 
 
-def call_of(job: Tree, known: Folding) -> Tree:
-    """The job that calls for one combination alone."""
-    call = {name: value for name, value in job.items() if name != 'strategy'}
+def call_of(name: str, job: Tree, known: Folding, row: Row) -> Tree:
+    """The job that calls for one combination alone, which its name says."""
+    call = {member: value for member, value in job.items() if member != 'strategy'}
+    said = text_of(job.get('name')) or name
+    call['name'] = known.partly(said) if '${{' in said else f'{said} ({", ".join(map(text_of, row.values()))})'
     if 'concurrency' in call:
         call['concurrency'] = known.template(call['concurrency'], 'concurrency')
     return call

@@ -13,7 +13,7 @@ from acts_runner.options import Options
 from acts_runner.plan import Plan
 from acts_workflow import cron, filters, inputs, profile, reading
 from acts_workflow.filters import as_list, triggers_of
-from acts_workflow.values import Fault, text_of
+from acts_workflow.values import Fault, Unknown, text_of
 
 from .bodies import Sent, Server, Source
 from .occasions import Occasion
@@ -23,6 +23,11 @@ from .starts import NOT_TAKEN, RULES, TYPES, Happening, not_wanted
 
 SHA = 40 * '0'
 SECONDS = 60  # of the program of the service
+FACTS = {  # of the kind that a hub gives to a runner
+    'attempt': 1, 'check_run_id': 1, 'strategy': {'job-total': 1, 'max-parallel': 1},
+    'github': {'run_number': '1', 'run_attempt': '1'},
+    'github_defaults': {**{name: 'https://ci.example.org' for name in ('server_url', 'api_url', 'graphql_url')},
+                        **{name: '1' for name in ('repository_id', 'repository_owner_id', 'retention_days')}}}
 
 
 class CheckError(Exception):
@@ -193,12 +198,14 @@ def sample(forms: Any) -> dict[str, Any]:
 
 
 def runner_faults(body: bytes, job: str, leg: str, combination: str, options: Options) -> list[str]:
-    """What a runner's plan of a leg says."""
+    """What a runner's plan of a leg says. What comes of the jobs before it is not known yet."""
     with tempfile.TemporaryDirectory() as folder:
         held = {'lease': '1', 'run': '1', 'job': job, 'leg': leg, 'combo': combination, 'claim': '1', 'present': None,
                 'body': None}
         here = {**asdict(options), 'work': folder, 'logs': folder}
         try:
-            return Plan.of_all(Job({'leg': held, 'body': body.decode(), 'options': here}, []))
+            made = Job({'leg': held, 'body': body.decode(), 'options': here, 'facts': FACTS}, [])
+            made.needs = {str(need): Unknown() for need in as_list(made.job.get('needs', []))}
+            return Plan.of_all(made)
         except (ValueError, KeyError, TypeError, AttributeError, OSError) as fault:
             return [f'jobs.{job}: not of the form of a job ({fault!r})']

@@ -7,10 +7,12 @@ from typing import AbstractSet, Any, Mapping
 
 from acts_workflow.expressions import parts, whole
 from acts_workflow.filters import as_list
+from acts_workflow.profile import NAME
 from acts_workflow.values import Fault, Known, Unknown, Value, text_of
 
 REFERENCE = re.compile(r"'(?:[^']|'')*'|(?<![\w.-])(inputs|secrets|needs)(?![\w-])"
                        r"(?:\s*\.\s*([A-Za-z_][\w-]*)|\s*\[\s*'((?:[^']|'')*)'\s*\])?", re.I)
+OUTPUT = re.compile(rf"'(?:[^']|'')*'|(?<![\w.-])needs\s*\.\s*({NAME})\s*\.\s*outputs\s*\.\s*({NAME})(?![\w-])", re.I)
 Tree = dict[str, Any]
 
 
@@ -30,19 +32,16 @@ def secrets_of(job: Tree, place: str) -> dict[str, str] | None:
     return made
 
 
-class Replaced:
-    """Replaces inputs, secrets and the ids of jobs in the jobs of one call."""
+class Rewritten:
+    """Rewrites the expressions of a job, each by `expression`."""
 
-    def __init__(self, inputs: Mapping[str, Value], secrets: Mapping[str, str] | None, ids: Mapping[str, str],
-                 skipped: AbstractSet[str], place: str) -> None:
-        self.inputs, self.secrets = {name.lower(): value for name, value in inputs.items()}, secrets
-        self.ids, self.skipped, self.place = ids, skipped, place
+    def expression(self, text: str) -> str:
+        """What stands for an expression."""
+        raise NotImplementedError
 
     def job(self, job: Tree) -> Tree:
-        """A job as it stands in the workflow that calls."""
+        """The job with all of its expressions rewritten."""
         made: Tree = self.texts(job)
-        if 'needs' in job:
-            made['needs'] = [self.ids.get(need, need) for need in as_list(job['needs'])]
         if isinstance(made.get('steps'), list):
             made['steps'] = [self.step(step) for step in made['steps']]
         return made
@@ -64,6 +63,38 @@ class Replaced:
         if not isinstance(value, str):
             return value
         return ''.join('${{' + self.expression(part.text) + '}}' if part.node else part.text for part in parts(value))
+
+
+class OutputsOfCalls(Rewritten):
+    """Puts the outputs of jobs that were put in place where a job asks for those of the call."""
+
+    def __init__(self, outputs: Mapping[str, Mapping[str, str]]) -> None:
+        self.outputs = outputs
+
+    def expression(self, text: str) -> str:
+        """An expression in the terms of the jobs that are there."""
+        return OUTPUT.sub(self.output, text)
+
+    def output(self, found: re.Match[str]) -> str:
+        """What stands for one reference: null for an output that the called workflow does not have."""
+        known = self.outputs.get(found[1] or '')
+        return found[0] if known is None else known.get(found[2].lower(), 'null')
+
+
+class Replaced(Rewritten):
+    """Replaces inputs, secrets and the ids of jobs in the jobs of one call."""
+
+    def __init__(self, inputs: Mapping[str, Value], secrets: Mapping[str, str] | None, ids: Mapping[str, str],
+                 skipped: AbstractSet[str], place: str) -> None:
+        self.inputs, self.secrets = {name.lower(): value for name, value in inputs.items()}, secrets
+        self.ids, self.skipped, self.place = ids, skipped, place
+
+    def job(self, job: Tree) -> Tree:
+        """A job as it stands in the workflow that calls."""
+        made = super().job(job)
+        if 'needs' in job:
+            made['needs'] = [self.ids.get(need, need) for need in as_list(job['needs'])]
+        return made
 
     def expression(self, text: str) -> str:
         """An expression in the terms of the workflow that calls."""

@@ -264,12 +264,12 @@ class Folding:
         if not isinstance(known, Unknown):
             value: str = text_of(known) if in_strategy else quoted(text_of(known))
             return value
-        if not profile.PIECE.fullmatch(text):
+        if not (profile.PIECE if in_strategy else profile.CHAIN).fullmatch(text):
             self.notes.append(Note(17, place, braced))
         elif place.startswith('concurrency') and profile.OF_A_JOB.search(text):
             self.notes.append(Note(18, place, braced))
         elif not in_strategy:
-            return self.chain(re.findall(profile.OPERAND, text)) or braced
+            return self.chain(re.findall(profile.LINK, text)) or braced
         return braced
 
     def chain(self, operands: list[str]) -> str | None:

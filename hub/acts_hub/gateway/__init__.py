@@ -1,6 +1,7 @@
 """What runners on other hosts reach: their lines over a WebSocket, and where logs, artifacts, outputs and caches go."""
 from __future__ import annotations
 
+import asyncio
 import resource
 from collections.abc import Awaitable, Callable
 from typing import TYPE_CHECKING
@@ -11,11 +12,14 @@ from ..events.settings import settings_of
 from .approvals import Approvals
 from .artifacts import Artifacts
 from .caches import Caches
+from .connect.service import SECONDS_OF_SILENCE as SILENCE_OF_TASKS
+from .connect.service import RunnerService
 from .environments import Environments
 from .findings import Findings
 from .legs import PATH, Legs
 from .logs import Logs
 from .passing import Passing
+from .places import Places
 from .websocket import CONNECTIONS_A_TOKEN, SECONDS_OF_SILENCE, Sockets
 
 if TYPE_CHECKING:
@@ -37,20 +41,29 @@ class Gateway:
         self.sockets = Sockets(hub.runner_port, self.passing,
                                int(table.get('connections_a_token', CONNECTIONS_A_TOKEN)),
                                float(table.get('silence', SECONDS_OF_SILENCE)))
-        self.legs = Legs(hub.config, hub.view, hub.notes, self.passing.leases, hub.database, free_environments(hub))
+        self.legs = Legs(hub.config, hub.view, hub.notes, self.passing.leases, hub.database, free_environments(hub),
+                         hub.mirror)
         self.logs = Logs(self.legs, hub.logs, self.findings, hub.database)
         self.artifacts = Artifacts(self.legs, hub.artifacts)
         self.caches = Caches(hub.config, self.legs, hub.caches, body_of(hub))
+        self.places = Places(self.legs, body_of(hub), hub.events)
         self.approvals = Approvals(hub, self.environments)
+        silence = float(table.get('silence_of_tasks', SILENCE_OF_TASKS))
+        self.connect = RunnerService(hub, self.passing, self.legs, self.findings, silence)
+        self.watching: asyncio.Task[None] | None = None
 
     async def start(self) -> None:
         """Takes up what an earlier life knew. Each runner takes descriptors: as many as there may be are asked for."""
         soft, hard = resource.getrlimit(resource.RLIMIT_NOFILE)
         resource.setrlimit(resource.RLIMIT_NOFILE, (max(soft, min(hard, 1 << 16)), hard))
         self.environments.load()
+        self.watching = asyncio.create_task(self.connect.watch(), name='tasks of runners that are gone')
 
     async def stop(self) -> None:
         """Closes all streams."""
+        if self.watching:
+            self.watching.cancel()
+            await asyncio.gather(self.watching, return_exceptions=True)
         await self.sockets.stop()
 
 
@@ -82,6 +95,7 @@ def routes(hub: Hub) -> list[web.RouteDef]:
         web.get(f'{BASE}/lines', gateway.sockets.handle),
         web.get(f'{BASE}/legs/{{run}}/{{lease}}', legs.facts, allow_head=False),
         web.put(f'{BASE}/outputs{PATH}', legs.keep_outputs),
+        web.get(f'{BASE}/places{PATH}', gateway.places.find, allow_head=False),
         web.put(f'{BASE}/logs{PATH}', logs.put),
         web.put(f'{BASE}/marks{PATH}', logs.put_marks),
         web.put(f'{BASE}/artifacts{PATH}', artifacts.put),
@@ -90,7 +104,7 @@ def routes(hub: Hub) -> list[web.RouteDef]:
         web.put(f'{BASE}/caches{PATH}', caches.put),
         web.get(f'{BASE}/caches{PATH}', caches.find, allow_head=False),
         web.get(f'{BASE}/caches{PATH}/{{id}}', caches.get, allow_head=False),
-        *gateway.approvals.routes()]
+        *gateway.approvals.routes(), *gateway.connect.routes()]
 
 
 def make(hub: Hub) -> Gateway:

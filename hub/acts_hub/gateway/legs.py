@@ -13,7 +13,8 @@ from ..config import Config
 from ..ledger.database import Database
 from ..ledger.logs import JOB, OUTCOMES
 from ..ledger.notes import NoteStore
-from ..rest.numbers import number_of
+from ..rest.numbers import JobNumber, number_of
+from ..service.mirror import Mirror
 from ..service.models import Whole
 from ..service.view import ViewPort
 from .environments import is_approval
@@ -48,9 +49,9 @@ class Legs:
     """Who may do what with a leg, and what its runner is told."""
 
     def __init__(self, config: Config, view: ViewPort, notes: NoteStore, leases: Leases, database: Database,
-                 free: Callable[[str], list[str]]) -> None:
+                 free: Callable[[str], list[str]], mirror: Mirror) -> None:
         self.config, self.view, self.notes, self.leases = config, view, notes, leases
-        self.database, self.free = database, free
+        self.database, self.free, self.mirror = database, free, mirror
 
     async def lease(self, request: web.Request, held: bool = True) -> Lease:
         """The lease that a request is about, if it is the runner's: 403 if not. `held`: it has to be so still;
@@ -95,7 +96,7 @@ class Legs:
         row, url = whole.row, self.config.url
         job = next(job for job in whole.jobs if job.id == lease.job)
         labels = next(leg.labels for leg in job.legs if leg.index == lease.leg)
-        owner = row.repository.partition('/')[0]
+        owner, index = row.repository.partition('/')[0], whole.jobs.index(job)
         defaults = {'server_url': url, 'api_url': f'{url}/api/v3', 'graphql_url': f'{url}/api/graphql',
                 'repository_owner_id': str(number_of('user', owner.lower())),
                     'repository_id': str(number_of('repo', row.repository.lower())), 'repository_owner': owner,
@@ -106,8 +107,14 @@ class Legs:
                 'outputs': {each.id: self.outputs(whole, each.id) for each in whole.jobs if each.id in job.needs},
                 'strategy': {'job-total': len(job.legs), 'max-parallel': job.max_parallel or len(job.legs)},
                 'is_approved': is_approval(labels, row.run), 'free_environments': self.free(row.repository),
+                'check_run_id': JobNumber(row.run, row.attempt, index, lease.leg).value,
                 'github_defaults': defaults,
-                'github': {'run_number': str(row.number), 'run_attempt': str(row.attempt)}}
+                'github': {'run_number': str(row.number), 'run_attempt': str(row.attempt), **self.by_whom(lease)}}
+
+    def by_whom(self, lease: Lease) -> dict[str, str]:
+        """Who has had an attempt made, if that went through the hub."""
+        note = self.mirror.attempts.notes.get((lease.run, lease.attempt))
+        return {'triggering_actor': note.triggering_actor} if note is not None and note.triggering_actor else {}
 
     def outputs(self, whole: Whole, job: str) -> dict[str, str]:
         """The outputs of a job: of the leases under which its legs ran, so those of no other attempt."""

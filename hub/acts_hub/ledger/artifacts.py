@@ -97,10 +97,11 @@ class ArtifactStore:
     def add(self, file: NewFile, run: int, attempt: int, name: str, overwrite: bool, digest: str | None, days: int | None) -> Artifact:
         """Keeps a file that was written whole; `Upload.finish` calls it."""
         kept_days = self.days if not days or days < 1 else min(days, self.days)
-        created = now()
-        made = Artifact(secrets.randbits(47) | 1, run, attempt, name, file.size, file.digest, created, created + kept_days * DAY)
         with self._lock:
-            before = [one for one in self.list(run) if (one.attempt, one.name) == (attempt, name)]
+            others = self.list(run)
+            created = max([now(), *(one.created_at + 1 for one in others[-1:])])  # (so that their order is the same after a restart)
+            made = Artifact(secrets.randbits(47) | 1, run, attempt, name, file.size, file.digest, created, created + kept_days * DAY)
+            before = [one for one in others if (one.attempt, one.name) == (attempt, name)]
             try:
                 if before and not overwrite:
                     raise ArtifactError('the attempt has an artifact of this name already')
@@ -121,7 +122,7 @@ class ArtifactStore:
         with self._lock:
             self._load()
             found = [self._rows[number] for number in self._by_run.get(run, ())]
-        return sorted((one for one in found if attempt in (None, one.attempt)), key=lambda one: (one.created_at, one.name))
+        return sorted((one for one in found if attempt in (None, one.attempt)), key=lambda one: one.created_at)
 
     def get(self, number: int) -> Artifact | None:
         """An artifact."""

@@ -232,13 +232,13 @@ class Database:
                 pass
             self._say(f'the ledger can not be written: {fault}')
             return False
+        self._say(None)                                     # (before whoever waits for these writes goes on)
         with self._wake:
             last = batch[-1][0]
             while self._waiting and self._waiting[0][0] <= last:
                 self._waiting.popleft()
             self.written = last
             self._wake.notify_all()
-        self._say(None)
         return True
 
     def _unit(self, writer: sqlite3.Connection, statements: list[Statement]) -> None:

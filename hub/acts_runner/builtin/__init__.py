@@ -20,7 +20,7 @@ def builtin_of(uses: str, options: Options) -> Builtin | None:
     found = re.fullmatch(r'actions/([a-z/-]+)@([\w./-]+)', uses)
     if not found:
         return None
-    if 'artifact' in found[1] and found[2] in ('v1', 'v2', 'v3'):
+    if found[1] in ('upload-artifact', 'download-artifact') and found[2] in ('v1', 'v2', 'v3'):
         raise ValueError('artifacts are those of version 4 and later')
     place = os.path.join(options.actions, 'actions', found[1]) if options.actions else None
     mirrored = place and any(os.path.isdir(place + end) for end in ('.git', ''))

@@ -25,6 +25,10 @@ class Builtin:
     takes: frozenset[str] = frozenset()
     ignores: frozenset[str] = frozenset()
 
+    def taken(self, given: Mapping[str, Any]) -> dict[str, Any]:
+        """The inputs that may change something."""
+        return {name: value for name, value in given.items() if name not in self.ignores}
+
     def check(self, job: Job, given: Mapping[str, Any]) -> None:
         """A ValueError for what it can't do. Values that are not known yet are '?'."""
         for name in sorted(given.keys() - self.takes - self.ignores):

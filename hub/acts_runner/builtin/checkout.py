@@ -20,7 +20,8 @@ NOWHERE = 'no-push-address-is-named'  # what git is told in place of an address,
 class Checkout(Builtin):
     """Fetches a commit, and checks it out. A push goes nowhere unless the operator names an address."""
 
-    takes = frozenset({'repository', 'ref', 'path', 'fetch-depth', 'fetch-tags', 'clean', 'submodules'})
+    takes = frozenset({'repository', 'ref', 'path', 'fetch-depth', 'fetch-tags', 'clean', 'submodules',
+                       'sparse-checkout', 'sparse-checkout-cone-mode'})
     ignores = frozenset({'persist-credentials', 'token', 'show-progress', 'set-safe-directory', 'filter'})
 
     def check(self, job: Job, given: Mapping[str, Any]) -> None:
@@ -38,6 +39,9 @@ class Checkout(Builtin):
             raise ValueError(f'fetch-depth is {depth}, and no number')
         if str(given.get('submodules', 'false') or 'false').lower() not in ('true', 'false', 'recursive', UNKNOWN):
             raise ValueError('submodules is none of true, false and recursive')
+        for line in sparse_in(given):
+            if line.startswith('-'):
+                raise ValueError(f'sparse-checkout has {line}, which is no folder')
 
     def run(self, job: Job, given: Mapping[str, str], call: Call) -> dict[str, str]:
         """Fetches and checks out."""
@@ -53,12 +57,18 @@ class Checkout(Builtin):
         is_own = name == job.github['repository']
         ref = given.get('ref') or (job.github['sha'] if is_own else '')
         commit = repository.fetch(ref, int(given.get('fetch-depth') or 1), is_true(given.get('fetch-tags')))
+        repository.choose(sparse_in(given), is_true(given.get('sparse-checkout-cone-mode') or 'true'))
         branch = branch_of(job.github.get('ref') or '') if ref == job.github.get('sha') else repository.branch
         repository.check_out(branch, commit)
         if (given.get('submodules') or 'false').lower() != 'false':
             depth = given.get('fetch-depth') or '1'
             repository.submodules(mirrors, name, depth, given['submodules'].lower() == 'recursive')
         return {'ref': given.get('ref') or job.github.get('ref') or '', 'commit': commit}
+
+
+def sparse_in(given: Mapping[str, Any]) -> list[str]:
+    """The folders or patterns that are checked out; none if all is."""
+    return [line.strip() for line in str(given.get('sparse-checkout') or '').splitlines() if line.strip()]
 
 
 def branch_of(ref: str) -> str:
@@ -117,6 +127,12 @@ class Repository:
             raise StepFailed(f'{self.url} has no branch or tag {ref or "HEAD"}: {done.stderr.strip()}')
         self.branch = branch_of(found)
         return found
+
+    def choose(self, paths: list[str], cone: bool) -> None:
+        """Says which folders are checked out, with the files above them, or by which patterns; all without any."""
+        words = ['set', '--cone' if cone else '--no-cone', *paths] if paths else ['disable']
+        if paths or os.path.exists(os.path.join(self.place, '.git', 'info', 'sparse-checkout')):
+            self.call('git', 'sparse-checkout', *words, cwd=self.place)
 
     def check_out(self, branch: str, commit: str) -> None:
         """Makes the folder that of a commit."""

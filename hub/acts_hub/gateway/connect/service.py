@@ -1,0 +1,263 @@
+"""`runner.v1.RunnerService`: runners register, say their labels, fetch tasks, and report steps, outputs, logs and
+results."""
+from __future__ import annotations
+
+import asyncio
+import json
+import time
+import uuid
+from collections import defaultdict
+from typing import TYPE_CHECKING, Any
+
+from aiohttp import web
+
+from ...access.identity import Identity, Right
+from ...log import say
+from ...rest.numbers import number_of
+from ..findings import Findings
+from ..legs import Legs, written
+from ..lines import fits
+from ..passing import Passing
+from . import messages
+from .calls import Given, Refused, handler
+from .messages import CANCELLED, FAILURE, SKIPPED, SUCCESS, UNSPECIFIED
+from .reports import Reports
+from .runners import RUNNERS, Runner, Runners, Slot, labels_for, name_for
+from .tasks import refusal_of, task_of
+
+if TYPE_CHECKING:
+    from ...hub import Hub
+
+BASE = '/api/actions'
+ORDERS = {SUCCESS: 'success', SKIPPED: 'success', FAILURE: 'failure', CANCELLED: 'cancelled'}
+SECONDS_OF_BEATS = 10  # between two beats of a task: each one is an entry of the service's history
+SECONDS_OF_SILENCE = 600  # after which a task whose runner says nothing has failed, as at Gitea
+SECONDS_OF_SWEEPS = 15.0
+MAX_VERSION = 64  # characters of the version that a runner says
+
+
+class RunnerService:
+    """The calls, over the lines that any runner behind the hub sends."""
+
+    def __init__(self, hub: Hub, passing: Passing, legs: Legs, findings: Findings, silence: float) -> None:
+        self.hub, self.passing, self.legs, self.silence = hub, passing, legs, silence
+        self.runners, self.reports = Runners(hub.notes), Reports(hub, passing.leases, findings)
+        self.locks: defaultdict[str, asyncio.Lock] = defaultdict(asyncio.Lock)
+        self.heard: dict[str, float] = {}  # slot -> when its runner said something
+        self.beaten: dict[str, tuple[float, str]] = {}  # slot -> when it was asked how its lease stands, and the answer
+        self.began = time.monotonic()
+
+    def routes(self) -> list[web.RouteDef]:
+        """The addresses of the calls."""
+        listed = [
+            ('runner.v1.RunnerService/Register', self.register, messages.REGISTER, messages.REGISTERED),
+            ('runner.v1.RunnerService/Declare', self.declare, messages.DECLARE, messages.DECLARED),
+            ('runner.v1.RunnerService/FetchTask', self.fetch_task, messages.FETCH_TASK, messages.FETCHED_TASK),
+            ('runner.v1.RunnerService/UpdateTask', self.update_task, messages.UPDATE_TASK, messages.UPDATED_TASK),
+            ('runner.v1.RunnerService/UpdateLog', self.update_log, messages.UPDATE_LOG, messages.UPDATED_LOG),
+            ('ping.v1.PingService/Ping', self.ping, messages.PING, messages.PING)]
+        return [web.post(f'{BASE}/{path}', handler(method, form, answered)) for path, method, form, answered in listed]
+
+    # Who calls.
+
+    def identity(self, request: web.Request, secret: str) -> Identity:
+        """Whose token a secret is."""
+        found = self.hub.access.of_secret(request, secret)
+        if found is None or found.right is not Right.RUNNER:
+            raise Refused('unauthenticated', 'the token is not valid, or no token of runners')
+        return found
+
+    def caller(self, request: web.Request) -> tuple[Identity, Runner]:
+        """The runner that calls, as its headers say."""
+        identity = self.identity(request, request.headers.get('x-runner-token', ''))
+        runner = self.runners.runner(request.headers.get('x-runner-uuid', ''))
+        if runner is None or runner.token != identity.token_id:
+            raise Refused('unauthenticated', 'unregistered runner')
+        return identity, runner
+
+    async def ping(self, _: web.Request, given: Given) -> Given:
+        """Whether somebody is here."""
+        return {'data': f'Hello, {given["data"]}!'}
+
+    async def register(self, request: web.Request, given: Given) -> Given:
+        """A runner is known by an id from now on; its token stays the one by which it has registered."""
+        identity = self.identity(request, given['token'])
+        labels, made = labels_for(identity, given['labels']), str(uuid.uuid4())
+        runner = Runner(made, name_for(identity, given['name']), identity.token_id, labels, given['version'][:MAX_VERSION])
+        self.runners.keep(runner)
+        await written(self.hub.database)
+        say(f'{identity.name} registers {runner.name} ({", ".join(labels)})')
+        return {'runner': {**shown(runner), 'token': given['token']}}
+
+    async def declare(self, request: web.Request, given: Given) -> Given:
+        """The labels of a runner, each time that it begins."""
+        identity, runner = self.caller(request)
+        runner.labels, runner.version = labels_for(identity, given['labels']), given['version'][:MAX_VERSION]
+        self.runners.keep(runner)
+        await written(self.hub.database)
+        return {'runner': shown(runner)}
+
+    # Tasks.
+
+    async def fetch_task(self, request: web.Request, given: Given) -> Given:
+        """A task, if there is one. No claim is sent while no leg would fit."""
+        identity, runner = self.caller(request)
+        nothing = {'tasks_version': self.hub.mirror.version + 1}
+        async with self.locks[runner.uuid]:
+            runner = self.runners.runner(runner.uuid) or runner
+            slot = next((each for each in self.runners.slots(runner) if each.task and 'attempt' not in each.task), None)
+            if slot is None and not await self.has_claimed(identity, runner):
+                return nothing
+            slot = slot or next(each for each in self.runners.slots(runner) if each.task and 'attempt' not in each.task)
+            task = await self.task(identity, slot)
+        return {'task': task, **nothing} if task else nothing
+
+    async def has_claimed(self, identity: Identity, runner: Runner) -> bool:
+        """Claims for a free slot, if there is one, and a leg that may be for it. Whether it has a leg then."""
+        slot = self.runners.free(runner)
+        if slot is None or not slot.line and not await self.has_fitting(runner):
+            return False
+        return await self.claim(identity, runner, slot)
+
+    async def has_fitting(self, runner: Runner) -> bool:
+        """Whether a leg waits that may be for a runner with these labels."""
+        for leg in await self.hub.view.queue():
+            added = self.passing.environments.label_of(leg)
+            if fits(leg.labels, (*runner.labels, *([added] if added else []))):
+                return True
+        return False
+
+    async def ask(self, identity: Identity, slot: Slot, line: str) -> str | bytes:
+        """The answer to a line; of a FETCH the body."""
+        session = await self.hub.runner_port.open()
+        try:
+            _, answer = await self.passing.answer(identity, slot.name, line, session)
+            return answer.text if answer.body is None else answer.body
+        finally:
+            session.close()
+
+    async def claim(self, identity: Identity, runner: Runner, slot: Slot) -> bool:
+        """Claims for a slot. A line that was not answered is sent again, since it may have been carried out."""
+        slot.line = slot.line or f'CLAIM {slot.name} {slot.number + 1} {",".join(runner.labels)},{slot.life}'
+        self.runners.keep_slot(slot)
+        await written(self.hub.database)
+        answer = str(await self.ask(identity, slot, slot.line)).split(' ', 5)
+        if answer[0] in ('lease', 'nothing'):
+            slot.number, claim, slot.line = int(slot.line.split()[2]), slot.line, None
+            if answer[0] == 'lease':
+                slot.task = {'lease': int(answer[1]), 'run': int(answer[2]), 'job': answer[3], 'claim': claim,
+                             'combination': answer[5]}
+        elif answer[1:2] in (['42'], ['43']):
+            say(f'{slot.name} is given up: the service answers {" ".join(answer)}, which is past what the ledger has')
+            self.runners.drop(runner, slot)
+            return False
+        else:
+            raise Refused('unavailable', ' '.join(answer))
+        self.runners.keep_slot(slot)
+        await written(self.hub.database)
+        self.heard[slot.name] = time.monotonic()
+        return slot.task is not None
+
+    async def task(self, identity: Identity, slot: Slot) -> Given | None:
+        """The task of the leg that a slot holds; None if it may not run, which ends it."""
+        held: Any = slot.task
+        body = await self.ask(identity, slot, f'FETCH {held["run"]}')
+        lease = self.passing.leases.get(held['run'], held['lease'])
+        whole = await self.hub.view.run(held['run'])
+        if isinstance(body, str) or lease is None or whole is None:
+            raise Refused('unavailable', f'run {held["run"]} is not shown')
+        admitted, told = json.loads(body), self.legs.told(lease, whole)
+        why = refusal_of(admitted, told, lease.job)
+        if why:
+            self.reports.refuse(lease, why)
+            await self.done(identity, slot, 'failure')
+            return None
+        held.update(attempt=lease.attempt, leg=lease.leg)
+        self.runners.keep_slot(slot)
+        return task_of(admitted, told, lease, json.loads(held['combination']))
+
+    def slot_of(self, runner: Runner, task: int) -> Slot:
+        """The slot that holds a task, or has held it last."""
+        for slot in self.runners.slots(runner):
+            for held in (slot.task, slot.ended):
+                if held is not None and held['lease'] == task:
+                    self.heard[slot.name] = time.monotonic()
+                    return slot
+        raise Refused('not_found', f'the runner has no task {task}')
+
+    async def update_task(self, request: web.Request, given: Given) -> Given:
+        """Steps, outputs and the result of a task. The answer says whether it is to end."""
+        identity, runner = self.caller(request)
+        state = given['state'] or messages.TASK_STATE.unpacked(b'')
+        async with self.locks[runner.uuid]:
+            slot = self.slot_of(runner, state['id'])
+            if slot.task is None or slot.task['lease'] != state['id']:  # (it has ended, and the slot may have another one)
+                return {'state': {'id': state['id'], 'result': state['result']}, 'sent_outputs': list(given['outputs'])}
+            sent = await self.reports.take(slot.task, state, given['outputs'])
+            if state['result'] != UNSPECIFIED:
+                await self.done(identity, slot, ORDERS.get(state['result'], 'failure'))
+                return {'state': {'id': state['id'], 'result': state['result']}, 'sent_outputs': sent}
+            result = UNSPECIFIED if await self.standing(identity, slot) == 'go on' else CANCELLED
+            return {'state': {'id': state['id'], 'result': result}, 'sent_outputs': sent}
+
+    async def standing(self, identity: Identity, slot: Slot) -> str:
+        """How the service answers a beat. It is asked now and then."""
+        held: Any = slot.task
+        asked, answer = self.beaten.get(slot.name, (0.0, ''))
+        if not answer or time.monotonic() > asked + SECONDS_OF_BEATS or answer != 'go on':
+            answer = str(await self.ask(identity, slot, f'BEAT {slot.name} {held["lease"]}'))
+            self.beaten[slot.name] = time.monotonic(), answer
+        return answer
+
+    async def done(self, identity: Identity, slot: Slot, result: str) -> None:
+        """Reports a task. The line is kept till it is answered."""
+        held: Any = slot.task
+        slot.line = slot.line or f'DONE {slot.name} {slot.number + 1} {held["lease"]} {result}'
+        self.runners.keep_slot(slot)
+        await written(self.hub.database)
+        answer = str(await self.ask(identity, slot, slot.line))
+        if answer not in ('ok', 'refused 44', 'refused 45'):
+            raise Refused('unavailable', answer)
+        slot.number += answer == 'ok'
+        slot.line, slot.task, slot.ended = None, None, held
+        self.beaten.pop(slot.name, None)
+        self.runners.keep_slot(slot)
+        self.reports.complete(held)
+        await written(self.hub.database)
+
+    async def update_log(self, request: web.Request, given: Given) -> Given:
+        """Lines of a log. The answer says how many there are: where to go on."""
+        _, runner = self.caller(request)
+        async with self.locks[runner.uuid]:
+            slot = self.slot_of(runner, given['task_id'])
+            task = next(held for held in (slot.task, slot.ended) if held and held['lease'] == given['task_id'])
+            return {'ack_index': self.reports.lines(task, given['index'], given['rows'])}
+
+    # Runners that are gone.
+
+    async def watch(self) -> None:
+        """Ends tasks whose runners say nothing any more."""
+        while True:
+            await asyncio.sleep(min(SECONDS_OF_SWEEPS, self.silence / 2))
+            for uuid_of_it in self.hub.notes.list(0, 0, RUNNERS):
+                try:
+                    await self.sweep(uuid_of_it)
+                except Exception as fault:  # of whatever kind, it is this runner's alone
+                    say(f'a task of {uuid_of_it} is not ended: {fault!r}')
+
+    async def sweep(self, uuid_of_it: str) -> None:
+        """Ends the tasks of a runner that is gone."""
+        async with self.locks[uuid_of_it]:
+            runner = self.runners.runner(uuid_of_it)
+            token = self.hub.access.tokens.by_id(runner.token) if runner else None
+            for slot in self.runners.slots(runner) if runner and token else ():
+                silent = time.monotonic() - self.heard.get(slot.name, self.began)
+                if slot.task is not None and silent > self.silence and token is not None:
+                    say(f'run {slot.task["run"]} {slot.task["job"]}: {slot.name} was silent for {silent:.0f} seconds')
+                    await self.done(token.identity(), slot, 'failure')
+
+
+def shown(runner: Runner) -> Given:
+    """A runner as it is told of itself."""
+    return {'id': number_of('runner', runner.uuid), 'uuid': runner.uuid, 'name': runner.name, 'labels': runner.labels,
+            'version': runner.version, 'status': 1}
