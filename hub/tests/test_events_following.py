@@ -111,6 +111,7 @@ def told(tmp_path_factory: pytest.TempPathFactory) -> Iterator[Told]:
     made = Told(tmp_path_factory.mktemp('told') / 'x')
     try:
         made.start()
+        made.hub.token('linux', 'runner', prefix='w', labels=('linux',))  # so that no status says that nobody can take a leg
         yield made
     finally:
         made.end()
