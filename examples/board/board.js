@@ -291,7 +291,7 @@ function queuePage(parameters) {
 
 function runnersPage(parameters) {
   const rows = lists.rows.map(runner => [runner.runner, runner.lease ? legLink(runner.lease) : 'no leg', since(runner.heard_seconds_ago)]);
-  return [box('h1', {}, 'Runners'), filters('runners', [field('Name', 'name', parameters.name)]),
+  return [box('h1', {}, 'Runners'), filters('runners', [field('Name begins with', 'name', parameters.name)]),
     rows.length ? table('Runners by name', ['Runner', 'At work on', 'Heard'], rows) : box('p', {}, 'There are none.'), moreOf(loadRunners, parameters)];
 }
 

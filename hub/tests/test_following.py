@@ -142,6 +142,19 @@ def test_lines_of_a_later_service_say_all(tmp_path: pathlib.Path) -> None:
 
 
 @pytest.mark.quick
+def test_a_re_run_has_the_row_of_its_line(tmp_path: pathlib.Path) -> None:
+    async def test() -> None:
+        async with StandIn() as stand:
+            row = stand.add(1, group='deploy-1')
+            async with mirrored(stand, tmp_path) as mirror:
+                line = change_of({'after': 1, **row, 'attempt': 2, 'status': 'queued', 'conclusion': None, 'group': 'deploy-2', 'at': 5})
+                assert line is not None
+                await mirror._follower.changes.take([line], None, '1-0')
+                assert (mirror.runs[1].row.attempt, mirror.runs[1].row.group) == (2, 'deploy-2')
+    play(test())
+
+
+@pytest.mark.quick
 def test_answers_that_were_sent_again_begin_nothing(tmp_path: pathlib.Path) -> None:
     async def test() -> None:
         async with StandIn(has_body=False) as stand:

@@ -10,7 +10,7 @@ from collections.abc import AsyncIterator, Callable, Coroutine
 from typing import Any
 
 import pytest
-from harness import RunnerLines, Service, body_of
+from harness import RunnerLines, Service, body_of, request
 
 from acts_hub.ledger.database import Database
 from acts_hub.service.hooks import HookPort
@@ -359,4 +359,30 @@ def test_hostile_names_and_titles_are_taken_as_they_are(service: Service, seen: 
             await seen.until(mirror, lambda: mirror.kept.of(run) is not None and mirror.kept.of(run).facts)
         async with seen.mirror() as mirror:
             assert mirror.runs[run].facts == found.facts
+    play(test())
+
+
+@pytest.mark.quick
+def test_a_runner_is_asked_for_by_its_whole_name(service: Service, seen: Seen) -> None:
+    """The service finds runners by the beginning of their names; who asks for one runner gets no other."""
+    async def test() -> None:
+        async with seen.mirror() as mirror:
+            service.admit()
+            lease = await asyncio.to_thread(lambda: service.lines().claim('build-2'))
+            assert lease[0] == 'lease'
+            assert [one.name for one in await mirror.view.runners('build-2')] == ['build-2']
+            assert await mirror.view.runners('build') == await mirror.view.runners('build-22') == []
+            assert [row['runner'] for row in request(service.view, 'GET', '/runners?name=build').json()['runners']] == ['build-2']
+    play(test())
+
+
+@pytest.mark.quick
+def test_a_body_is_read_without_an_entry(service: Service, seen: Seen) -> None:
+    """What the mirror reads of a run leaves the history as it was."""
+    async def test() -> None:
+        body = body_of(message='Say hello')
+        run = service.admit(body)
+        async with seen.mirror() as mirror:
+            assert await mirror.body(run) == body
+            assert 'acts_entries_total 1\n' in request(service.view, 'GET', '/metrics').text
     play(test())

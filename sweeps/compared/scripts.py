@@ -25,6 +25,7 @@ CONDITIONS = ('success()', 'failure()', 'always()', 'cancelled()', '!cancelled()
 GROUPS = ('deploy', 'DEPLOY', 'prod', '', '${{ github.ref_name }}', 'g-${{ inputs.n }}', '${{ github.run_attempt }}', 'Stra\u00dfe', 'STRASSE')
 OF_LEGS = ('${{ matrix.n }}', "m-${{ matrix.os || 'none' }}", '${{ strategy.job-index }}', '${{ needs.a.result }}', "${{ needs.b.result || 'far' }}")
 SENT = ('linux', 'main', 'x64', True, False, 0, 1, -7, None, '', 1.5, ['linux'], {'x': 'gpu'})
+SAID = ('Build it', 'Build it\n\nand more\r\n', '\nafter a line', 'a "quote"\\ \u2028\u00e9', '', None, 7, ['x'])
 STRANGE = (None, True, 0, 7, 1.5, '', 'x', [], {}, ['x'], {'x': 1}, '${{ x }}', '${{ matrix.n', '${{ github.ref }}', '${{ needs.a.result }}')
 MANY = 'linux,x64,gpu,main,success,failure,1,2,true,m-none,m-1,m-linux,deploy,prod,far,g-'
 NAMES = ('n', 'os', 'k')
@@ -146,12 +147,21 @@ def encoded(dice, value):
     return data.replace(b'\n', b' ').removesuffix(b'\r')
 
 
+def told(dice):
+    """What a sender tells of an event, beside the name of its branch."""
+    made = {name: dice.choice(SENT) for name in dice.sample(('ref', 'sha', 'head_ref', 'actor'), dice.randint(0, 4))}
+    event = {'head_commit': {'message': dice.choice(SAID)}} if chance(dice, 0.5) else {}
+    if chance(dice, 0.4):
+        event['pull_request'] = {'title': dice.choice(SAID)}
+    return {**made, 'event': event}
+
+
 def body(dice):
     made = {'repo': dice.choice(('o/r', 'o/r', 'O/R')), 'path': dice.choice(('ci.json', 'cd.json')), 'workflow': workflow(dice)}
     if chance(dice, 0.5):
         made['inputs'] = {name: dice.choice(SENT) for name in dice.sample(('n', 'go', 'os'), dice.randint(0, 3))}
     if chance(dice, 0.4):
-        made['github'] = {'ref_name': dice.choice(SENT), 'workflow': {'x': 'linux'}}
+        made['github'] = {'ref_name': dice.choice(SENT), 'workflow': {'x': 'linux'}, **told(dice)}
     if chance(dice, 0.2):
         made['vars'] = {'l': dice.choice(SENT)}
     if chance(dice, 0.1):

@@ -25,29 +25,38 @@ def name_of(group):
     return None if group is None else group[1]
 
 
-def ref_of(run):
-    value = run.event.sent_value(('github', 'ref'))
+def sent_text(run, *path):
+    value = run.event.sent_value(path)
     return value[1] if value and value[0] == 'str' else None
+
+
+def title_of(run):
+    title = sent_text(run, 'github', 'event', 'pull_request', 'title')
+    message = sent_text(run, 'github', 'event', 'head_commit', 'message')
+    return title if title is not None else message and message.split('\n')[0]
 
 
 def row(run):
     event = run.event
+    sent = {name: sent_text(run, 'github', name) for name in ('ref', 'sha', 'ref_name', 'head_ref', 'actor')}
     return {'run': run.place, 'number': run.number, 'attempt': run.attempt, 'repository': event.repo, 'path': event.path,
-            'workflow': event.workflow.name or '', 'event': event.name.decode(), 'delivery': event.delivery.decode(), 'ref': ref_of(run),
-            'status': status(run), 'conclusion': conclusion(run), 'group': name_of(run.group)}
+            'workflow': event.workflow.name or '', 'event': event.name.decode(), 'delivery': event.delivery.decode(), **sent,
+            'title': title_of(run), 'status': status(run), 'conclusion': conclusion(run), 'group': name_of(run.group)}
 
 
 def runs(table, before=None, limit=100, **wanted):
     """A page of `/runs`."""
     top = len(table.runs) if before is None else min(before - 1, len(table.runs))
     names = {'repo': 'repository'}
+    if 'group' in wanted:
+        wanted['group'] = wanted['group'].casefold()
     rows, looked = [], 0
     while looked < min(top, LOOKED) and len(rows) < limit:
         made = row(table.runs[top - 1 - looked])
         if all(made[names.get(name, name)] == value for name, value in wanted.items()):
             rows.append(made)
         looked += 1
-    return text({'runs': rows, 'before': top - looked + 1 if looked < top else None})
+    return text({'runs': rows, 'looked': looked, 'before': top - looked + 1 if looked < top else None})
 
 
 def for_group(group):
@@ -74,6 +83,11 @@ def runner_of(table, leg):
     return None
 
 
+def leg_runner(table, leg, names):
+    """The runner that has the lease of a leg, or had it; `names` has those of the leases that were given since the service began."""
+    return runner_of(table, leg) or names.get(leg.lease)
+
+
 def labels_of(plain, run, job, place):
     context = run.context(job, place)
     return [plain.text_of(label.value(context)) for label in run.plan[job].labels]
@@ -83,28 +97,28 @@ def combination(plain, run, job, place):
     return json.loads(plain.combination_text(run.plan[job].legs[place]))
 
 
-def leg_row(plain, table, run, job, place):
+def leg_row(plain, table, run, job, place, names):
     leg = run.jobs[job].legs[place]
     group, _ = run.asks(run.plan[job].concurrency, run.context(job, place))
     return {'leg': place, 'combination': combination(plain, run, job, place), 'state': leg.phase, 'lease': leg.lease or None,
-            'runner': runner_of(table, leg), 'labels': labels_of(plain, run, job, place), 'group': name_of(group),
+            'runner': leg_runner(table, leg, names), 'labels': labels_of(plain, run, job, place), 'group': name_of(group),
             'waits_for': leg_waits_for(run, job, leg, group)}
 
 
-def job_row(plain, table, run, job):
+def job_row(plain, table, run, job, names):
     planned, state = run.plan[job], run.jobs[job]
     return {'id': planned.name, 'state': state.state, 'needs': planned.needs, 'max_parallel': planned.most,
-            'legs': [leg_row(plain, table, run, job, place) for place in range(len(state.legs))]}
+            'legs': [leg_row(plain, table, run, job, place, names) for place in range(len(state.legs))]}
 
 
-def one_run(plain, table, place, first=0):
+def one_run(plain, table, place, first, names):
     """`/runs/RUN`, or None."""
     if place > len(table.runs):
         return None
     run = table.runs[place - 1]
     jobs, legs, looked = [], 0, min(first, len(run.jobs))
     while looked < len(run.jobs) and legs < FULL:
-        jobs.append(job_row(plain, table, run, looked))
+        jobs.append(job_row(plain, table, run, looked, names))
         legs += len(run.jobs[looked].legs)
         looked += 1
     return text({**row(run), 'stopping': run.stops, 'waits_for': for_group(run.group) if run.phase == 'waiting' else None,
@@ -118,7 +132,7 @@ def by_runs(name, table, rows_of, first, limit):
     while looked < min(left, LOOKED) and len(rows) < limit:
         rows += rows_of(table.runs[start + looked])
         looked += 1
-    return text({name: rows, 'from': first + looked if looked < left else None})
+    return text({name: rows, 'looked': looked, 'from': first + looked if looked < left else None})
 
 
 def legs_of(run):
@@ -136,7 +150,7 @@ def queue(plain, table, first=1, limit=100):
 
 def groups(table, first=1, limit=100, repo=None, group=None):
     def holder(run, its, phase, job, place):
-        if its is None or (repo is not None and its[0] != repo) or (group is not None and its[1] != group):
+        if its is None or (repo is not None and its[0] != repo) or (group is not None and its[1] != group.casefold()):
             return []
         return [{'repository': its[0], 'group': its[1], 'state': 'pending' if phase == 'waiting' else 'in_progress', 'run': run.place, 'job': job, 'leg': place}]
 
@@ -149,22 +163,29 @@ def groups(table, first=1, limit=100, repo=None, group=None):
     return by_runs('groups', table, rows_of, first, limit)
 
 
+def claimed_labels(runner):
+    """The labels of a claim, if that was the last command of a runner."""
+    kind, *fields = runner.command
+    return fields[0].decode().split(',') if kind == 'claim' else None
+
+
 def runner_row(name, runner):
     lease = None
     if runner.holds:
         number, run, job, place = runner.holds
         lease = {'lease': number, 'run': run.place, 'job': run.plan[job].name, 'leg': place}
-    return {'runner': name.decode(), 'number': runner.number, 'lease': lease}
+    return {'runner': name.decode(), 'number': runner.number, 'lease': lease, 'labels': claimed_labels(runner)}
 
 
 def runners(table, after=None, limit=100, name=None):
     """A page of `/runners`, without the seconds."""
-    names = sorted(table.runners)
-    if name is not None:
-        return {'runners': [runner_row(it, table.runners[it]) for it in names if it.decode() == name], 'after': None}
-    left = [it for it in names if after is None or it > after.encode()]
-    page = left[:limit]
-    return {'runners': [runner_row(it, table.runners[it]) for it in page], 'after': page[-1].decode() if len(left) > len(page) else None}
+    left = [it for it in sorted(table.runners) if after is None or it > after.encode()]
+    rows, looked = [], 0
+    while looked < min(len(left), LOOKED) and len(rows) < limit:
+        if left[looked].startswith((name or '').encode()):
+            rows.append(runner_row(left[looked], table.runners[left[looked]]))
+        looked += 1
+    return {'runners': rows, 'looked': looked, 'after': left[looked - 1].decode() if looked < len(left) else None}
 
 
 def metrics(plain, table, refused):
@@ -192,3 +213,37 @@ def metrics(plain, table, refused):
         if refused.get(number):
             made[f'acts_refusals_total{{number="{number}"}}'] = refused[number]
     return made
+
+
+def legs_now(table, run, names):
+    """The legs of a run, each by its job and its index: its state, its lease and its runner."""
+    return {(run.plan[job].name, place): (leg.phase, leg.lease or None, leg_runner(table, leg, names)) for job, place, leg in legs_of(run)}
+
+
+class Told:
+    """What the lines of `/changes` have told of each run: its attempt, status and conclusion, and the state and lease of its legs."""
+
+    def __init__(self):
+        self.runs = {}
+
+    def news(self, table, names):
+        """What is told of a table, without place and time: each run that begins an attempt or is not as it was told, and then its legs that are not."""
+        return [line for run in table.runs for line in self.news_of(table, run, names)]
+
+    def news_of(self, table, run, names):
+        attempt, *state = self.runs.get(run.place, (0,))
+        now, legs = (status(run), conclusion(run)), legs_now(table, run, names)
+        is_begun = attempt != run.attempt
+        if not is_begun and state[0] == 'completed':
+            return []
+        made = []
+        if is_begun:
+            made.append(row(run))
+        elif now != tuple(state[:2]):
+            made.append({'run': run.place, 'attempt': run.attempt, 'status': now[0], 'conclusion': now[1]})
+        told = {} if is_begun else state[2]
+        for (job, place), (phase, lease, runner) in legs.items():
+            if told.get((job, place)) != (phase, lease):
+                made.append({'run': run.place, 'attempt': run.attempt, 'job': job, 'leg': place, 'state': phase, 'lease': lease, 'runner': runner})
+        self.runs[run.place] = (run.attempt, *now, {key: leg[:2] for key, leg in legs.items()})
+        return made

@@ -1,2 +1,4 @@
 pub mod LogLemmas
+pub mod NothingLeft
 pub mod PageLemmas
+pub mod Telling

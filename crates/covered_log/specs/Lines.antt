@@ -1,22 +1,28 @@
 -- The changes since a service began, and their lines.
-use Rattle.std.specs.Prelude.{ℕ, ◌+◌, List, [], ◌∷◌, length}
+use Rattle.std.specs.Prelude.{ℕ, ◌+◌, ◌^◌, List, [], ◌∷◌, ◌++◌, length, nat_lt, if◌then◌else◌}
 use Rattle.std.specs.List.{flat_map}
 use Rattle.run_plan.specs.declared.command.Command.{Command}
 use Rattle.run_plan.specs.declared.reply.Reply.{Reply}
 use Rattle.table_model.specs.Runs.{RunState}
-use Rattle.table_views.specs.ChangeLines.{entry_line, run_change_line}
+use Rattle.table_model.specs.ViewText.{Seen}
+use Rattle.table_views.specs.ChangeLines.{entry_line, leg_change_line, attempt_line, run_change_line}
+use Rattle.table_views.specs.declared.told_legs.LegNews.{LegNews}
 
--- What a line tells: an entry, or a run with its id as it stands after the entries before. A missed change is one of runs that there was no
--- memory to tell: it has no line, and is counted as one.
+-- What a line tells, and the time of its commit: an entry; a run of these that begins an attempt; a run with its id, or a leg, as it stands
+-- after the entries before. A missed change is one of runs and legs that there was no memory to tell: it has no line, and is counted as one.
 pub data Change : Type 0 where
-  Entered : Command → Reply → Change
-  Stands : ℕ → RunState → Change
+  Entered : ℕ → Command → Reply → Change
+  Begins : ℕ → List RunState → Seen → Change
+  Stands : ℕ → ℕ → RunState → Change
+  LegStands : ℕ → LegNews → Change
   Missed : Change
 
 -- the entries among changes, in order
 abbrev pub entries_in : Change → List (Command × Reply)
-entries_in (Entered command reply) = (command, reply) ∷ []
-entries_in (Stands id run) = []
+entries_in (Entered at command reply) = (command, reply) ∷ []
+entries_in (Begins at runs seen) = []
+entries_in (Stands at id run) = []
+entries_in (LegStands at news) = []
 entries_in Missed = []
 
 abbrev pub entries_of : List Change → List (Command × Reply)
@@ -24,8 +30,10 @@ entries_of changes = flat_map entries_in changes
 
 -- The line of a change after so many entries: the place of an entry counts from 1.
 abbrev pub line_of : ℕ → Change → List ℕ
-line_of place (Entered command reply) = entry_line (place + 1) command reply
-line_of place (Stands id run) = run_change_line place id run
+line_of place (Entered at command reply) = entry_line (place + 1) at command reply
+line_of place (Begins at runs seen) = attempt_line place at runs seen
+line_of place (Stands at id run) = run_change_line place at id run
+line_of place (LegStands at news) = leg_change_line place at news
 line_of place Missed = []
 
 -- the lines of changes after so many entries
@@ -36,3 +44,12 @@ lines_after place (c ∷ cs) = line_of place c ∷ lines_after (place + length (
 -- the lines of all changes
 abbrev pub lines_of : List Change → List (List ℕ)
 lines_of changes = lines_after 0 changes
+
+-- one more change, if there is room for it: there are fewer than 2^64
+abbrev pub with_more : List Change → Change → List Change
+with_more changes c = if nat_lt (length changes + 1) (2 ^ 64) then changes ++ c ∷ [] else changes
+
+-- more changes, as many as there is room for
+abbrev pub with_all : List Change → List Change → List Change
+with_all changes [] = changes
+with_all changes (c ∷ cs) = with_all (with_more changes c) cs

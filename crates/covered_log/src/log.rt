@@ -1,18 +1,20 @@
 ghost use Rattle.std.specs.Prelude.{◌≡◌, ◌+◌, ◌↔◌, ◌≤◌, IfNone, IfOk, IfSome, IsTrue, OnErr, OnOk, false, length, true};
-ghost use Rattle.covered_log.specs.Lines.{Entered, Missed, Stands};
+ghost use Rattle.covered_log.specs.Lines.{Begins, Entered, LegStands, Missed, Stands};
 ghost use Rattle.covered_log.specs.LogState.{HasRoom, IsPage, is_known, losing_line, new_log, place_of, with_change};
 
 use crate::kept::KeptLines;
 use crate::page::{Page, page_end, text_between};
 use crate::told::ToldChanges;
 use run_plan::{Command, Number, Reply};
+use run_table::RunView;
 use std::alloc::{AllocError, Global};
 use std::marker::Model;
 use table_model::Run;
-use table_views::{entry_line, run_change_line};
+use table_runs::runs::Runs;
+use table_views::{LegNews, attempt_line, entry_line, leg_change_line, run_change_line};
 
-/// The changes of a service: its covered entries, in the order of the history, and the runs that they have changed. The lines of the last
-/// changes are kept; all changes are counted. Places and cursors go on when the history of the store turns over.
+/// The changes of a service: its covered entries, in the order of the history, and the runs and legs that they have changed. Each has the time
+/// of its commit, in milliseconds since 1970. The lines of the last changes are kept; all changes are counted. Places and cursors go on when the history of the store turns over.
 #[derive(Drop)]
 pub struct CoveredLog {
     /// What tells the cursors of this process from those of others.
@@ -76,39 +78,81 @@ impl CoveredLog {
     }
 
     /// Takes up the next entry. Without memory for its line all lines are forgotten, and the counts go on.
-    /// Promise (Views of a service): An entry of the history that is covered is a change, and its line is the definition's, to the byte, with
-    ///   its place; so is the line of a run
-    /// By: `covered_log::CoveredLog::{enter, stand}`, `ok`, `err` (`with_change`); `table_views::{entry_line, run_change_line}`
+    /// Promise (Views of a service): A covered entry is a change, and its line is the definition's, to the byte, with its place and time; so
+    ///   are the line of a run, with its row where an attempt begins, and that of a leg
+    /// By: `covered_log::CoveredLog::enter`, `ok`, `err` (`with_change`, `line_of`)
     pub fn enter(
         &mut self,
         alloc: Global,
+        at: u64,
         command: &Command,
         reply: &Reply,
     ) -> Result<(), AllocError>
         requires { HasRoom self.old }
-        ensures ok { OnOk result (self.new ≡ with_change self.old (Entered command.now reply.now)) }
-        ensures err { OnErr result (self.new ≡ losing_line self.old (Entered command.now reply.now)) }
+        ensures ok { OnOk result (self.new ≡ with_change self.old (Entered at command.now reply.now)) }
+        ensures err { OnErr result (self.new ≡ losing_line self.old (Entered at command.now reply.now)) }
     {
         self.entries += 1;
-        let line = entry_line(alloc, self.entries, command, reply);
-        self.told.enter(command, reply);
+        let line = entry_line(alloc, self.entries, at, command, reply);
+        self.told.enter(at, command, reply);
+        self.kept.keep(line)?;
+        Ok(())
+    }
+
+    /// Takes up how a run that begins an attempt stands after the entries so far. Without memory for its line all lines are forgotten, and the counts go on.
+    pub(crate) fn begin(
+        &mut self,
+        alloc: Global,
+        at: u64,
+        runs: &Runs,
+        view: &RunView<'_>,
+    ) -> Result<(), AllocError>
+        requires { HasRoom self.old }
+        ensures ok { OnOk result (self.new ≡ with_change self.old (Begins at runs.now view.now)) }
+        ensures err { OnErr result (self.new ≡ losing_line self.old (Begins at runs.now view.now)) }
+    {
+        let line = attempt_line(alloc, self.entries, at, runs, view);
+        self.told.begin(at, runs, view);
         self.kept.keep(line)?;
         Ok(())
     }
 
     /// Takes up how a run stands after the entries so far. Without memory for its line all lines are forgotten, and the counts go on.
-    pub fn stand(&mut self, alloc: Global, id: Number, run: &Run) -> Result<(), AllocError>
+    pub(crate) fn stand(
+        &mut self,
+        alloc: Global,
+        at: u64,
+        id: Number,
+        run: &Run,
+    ) -> Result<(), AllocError>
         requires { HasRoom self.old }
-        ensures ok { OnOk result (self.new ≡ with_change self.old (Stands id run.now)) }
-        ensures err { OnErr result (self.new ≡ losing_line self.old (Stands id run.now)) }
+        ensures ok { OnOk result (self.new ≡ with_change self.old (Stands at id run.now)) }
+        ensures err { OnErr result (self.new ≡ losing_line self.old (Stands at id run.now)) }
     {
-        let line = run_change_line(alloc, self.entries, id, run);
-        self.told.stand(id, run);
+        let line = run_change_line(alloc, self.entries, at, id, run);
+        self.told.stand(at, id, run);
         self.kept.keep(line)?;
         Ok(())
     }
 
-    /// There was no memory to tell how runs stand. All lines are forgotten, and the counts go on.
+    /// Takes up how a leg stands after the entries so far. Without memory for its line all lines are forgotten, and the counts go on.
+    pub(crate) fn stand_leg(
+        &mut self,
+        alloc: Global,
+        at: u64,
+        news: &LegNews,
+    ) -> Result<(), AllocError>
+        requires { HasRoom self.old }
+        ensures ok { OnOk result (self.new ≡ with_change self.old (LegStands at news.now)) }
+        ensures err { OnErr result (self.new ≡ losing_line self.old (LegStands at news.now)) }
+    {
+        let line = leg_change_line(alloc, self.entries, at, news);
+        self.told.stand_leg(at, news);
+        self.kept.keep(line)?;
+        Ok(())
+    }
+
+    /// There was no memory to tell how runs and legs stand. All lines are forgotten, and the counts go on.
     /// Promise (Views of a service): Places count all entries since the service began, also those for whose lines there was no memory
     /// By: `covered_log::CoveredLog::miss` (`losing_line`); `covered_log::CoveredLog::place`
     pub fn miss(&mut self)

@@ -1,17 +1,23 @@
 ghost use Rattle.std.specs.Prelude.{◌≡◌, ◌++◌, ◌∷◌, []};
-ghost use Rattle.covered_log.specs.Lines.{Entered, Missed, Stands};
+ghost use Rattle.covered_log.specs.Lines.{Begins, Entered, LegStands, Missed, Stands};
 
 use http_server::Log;
 use run_plan::{Command, Number, Reply};
+use run_table::RunView;
 use std::marker::Model;
 use std::snapshot::Snapshot;
 use table_model::Run;
+use table_runs::runs::Runs;
+use table_views::LegNews;
 
-/// What a line tells.
+/// What a line tells, and when.
 #[derive(Drop)]
 pub(crate) enum Told {
-    Entry(Snapshot<Command>, Snapshot<Reply>),
-    Run(Number, Snapshot<Run>),
+    Entry(u64, Snapshot<Command>, Snapshot<Reply>),
+    /// A run that begins an attempt: its id, and its number among those of its workflow.
+    Attempt(u64, Snapshot<Runs>, Number, usize, Snapshot<Run>),
+    Run(u64, Number, Snapshot<Run>),
+    Leg(u64, Snapshot<LegNews>),
     Missed,
 }
 
@@ -39,18 +45,35 @@ impl ToldChanges {
     }
 
     /// Appends an entry.
-    pub(crate) fn enter(&mut self, command: &Command, reply: &Reply)
-        ensures { self.new ≡ self.old ++ Entered command.now reply.now ∷ [] }
+    pub(crate) fn enter(&mut self, at: u64, command: &Command, reply: &Reply)
+        ensures { self.new ≡ self.old ++ Entered at command.now reply.now ∷ [] }
     {
-        let entry = Told::Entry(Snapshot::of(command), Snapshot::of(reply));
+        let entry = Told::Entry(at, Snapshot::of(command), Snapshot::of(reply));
         self.told = self.told.and(&entry, &true);
     }
 
-    /// Appends how a run stands.
-    pub(crate) fn stand(&mut self, id: Number, run: &Run)
-        ensures { self.new ≡ self.old ++ Stands id run.now ∷ [] }
+    /// Appends how a run stands that begins an attempt.
+    pub(crate) fn begin(&mut self, at: u64, runs: &Runs, view: &RunView<'_>)
+        ensures { self.new ≡ self.old ++ Begins at runs.now view.now ∷ [] }
     {
-        let stand = Told::Run(id, Snapshot::of(run));
+        let run = Snapshot::of(view.run());
+        let begun = Told::Attempt(at, Snapshot::of(runs), view.id(), view.number(), run);
+        self.told = self.told.and(&begun, &true);
+    }
+
+    /// Appends how a run stands.
+    pub(crate) fn stand(&mut self, at: u64, id: Number, run: &Run)
+        ensures { self.new ≡ self.old ++ Stands at id run.now ∷ [] }
+    {
+        let stand = Told::Run(at, id, Snapshot::of(run));
+        self.told = self.told.and(&stand, &true);
+    }
+
+    /// Appends how a leg stands.
+    pub(crate) fn stand_leg(&mut self, at: u64, news: &LegNews)
+        ensures { self.new ≡ self.old ++ LegStands at news.now ∷ [] }
+    {
+        let stand = Told::Leg(at, Snapshot::of(news));
         self.told = self.told.and(&stand, &true);
     }
 

@@ -182,7 +182,7 @@ fn commit<D: Disk, R: Clock>(
     turns.commit()?;
     turns.begin(rt);
     let took = turns.now.saturating_duration_since(begin);
-    turns.has_committed(took);
+    turns.has_committed(rt, took);
     let came = coming(watch, turns)?;
     turns
         .linger

@@ -17,7 +17,7 @@ use service_startup::tell_settled;
 use service_views::Seen;
 use std::alloc::Global;
 use std::io::Write;
-use std::time::{Clock, Duration, Instant};
+use std::time::{Clock, Duration, Instant, SystemTime, UNIX_EPOCH};
 use view_port::{FIRST_TOKEN, Views};
 use webhook_sessions::Hooks;
 use wf_value::{Code, Refusal};
@@ -58,6 +58,17 @@ fn elapsed<R: Clock>(rt: &R, since: Instant) -> Duration {
     }
 }
 
+/// Milliseconds since 1970; `before` if the clock cannot be read.
+fn milliseconds<R: Clock>(rt: &R, before: u64) -> u64 {
+    let Ok(now) = SystemTime::now(rt) else {
+        return before;
+    };
+    match now.duration_since(UNIX_EPOCH) {
+        Ok(since) => u64::try_from(since.as_millis()).unwrap_or(before),
+        Err(_) => before,
+    }
+}
+
 /// All that a turn needs.
 #[derive(Drop)]
 pub(crate) struct Turns<'a, D: Disk> {
@@ -79,6 +90,8 @@ pub(crate) struct Turns<'a, D: Disk> {
     pub(crate) now: Instant,
     /// When its first clients were heard.
     began: Instant,
+    /// When the last commit ended, in milliseconds since 1970.
+    committed: u64,
     /// When silent clients were last looked for.
     swept: Instant,
     /// Whether clients leave, or answers wait.
@@ -109,6 +122,7 @@ impl<'a, D: Disk> Turns<'a, D> {
             bytes: 0,
             now,
             began: now,
+            committed: 0,
             swept: now,
             is_restless: false,
         }
@@ -324,9 +338,10 @@ impl<'a, D: Disk> Turns<'a, D> {
         self.go_on(slot, released.next);
     }
 
-    /// A commit took so long.
-    pub(crate) fn has_committed(&mut self, took: Duration) {
+    /// A commit has ended. It took so long.
+    pub(crate) fn has_committed<R: Clock>(&mut self, rt: &R, took: Duration) {
         if let Some(views) = &mut self.views {
+            self.committed = milliseconds(rt, self.committed);
             views.committed(took);
         }
     }
@@ -379,7 +394,7 @@ impl<'a, D: Disk> Turns<'a, D> {
         let Some(views) = &mut self.views else {
             return Ok(());
         };
-        views.take_up(self.alloc, self.service.store(), self.now);
+        views.take_up(self.alloc, self.service.store(), self.committed, self.now);
         let most = self.time_to_show(rt);
         for _ in 0..MAX_CLIENTS {
             if !self.show_next() || elapsed(rt, self.began) >= most {

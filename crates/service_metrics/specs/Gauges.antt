@@ -13,6 +13,11 @@ program_lines version uptime =
     build_lines version
     ++ metric (codes "acts_uptime_seconds") (codes "gauge") (codes "Seconds since the service began.") uptime
 
+-- the longest silence of a runner with a lease
+abbrev pub silence_lines : ℕ → List ℕ
+silence_lines silence =
+    metric (codes "acts_longest_silence_seconds") (codes "gauge") (codes "Seconds since the runner with a lease that is silent for longest was heard.") silence
+
 abbrev pub client_lines : ℕ → ℕ → ℕ → List ℕ
 client_lines hooks runners views =
     head (codes "acts_clients") (codes "gauge") (codes "Connected clients by port.")

@@ -1,13 +1,14 @@
 //! How a service stands: its program, its clients and its file.
 
 ghost use Rattle.std.specs.Prelude.{◌≡◌, ◌++◌, OnOk, string_bytes};
-ghost use Rattle.service_metrics.specs.Gauges.{build_lines, client_lines, file_lines, program_lines, version_line};
+ghost use Rattle.service_metrics.specs.Gauges.{build_lines, client_lines, file_lines, program_lines, silence_lines, version_line};
 
 use std::alloc::{AllocError, Global};
 use table_views::{push_head, push_metric, push_value};
 
-/// How a service stands: the version of its program, the seconds since it began, how many clients each port has, the length of an area and
-/// its room, its generation, and how many checkpoints were finished.
+/// How a service stands: the version of its program, the seconds since it began, how many clients each port has, for how many seconds the
+/// runner with a lease that is silent for longest was not heard, the length of an area and its room, its generation, and how many checkpoints
+/// were finished.
 #[derive(Clone, Copy)]
 pub struct Gauges<'a> {
     pub version: &'a str,
@@ -15,6 +16,7 @@ pub struct Gauges<'a> {
     pub hooks: u64,
     pub runners: u64,
     pub views: u64,
+    pub silence: u64,
     pub area: u64,
     pub room: u64,
     pub generation: u64,
@@ -76,6 +78,20 @@ pub(crate) fn push_clients(
     push_value(alloc, text, "acts_clients", "{port=\"hook\"}", hooks)?;
     push_value(alloc, text, "acts_clients", "{port=\"runner\"}", runners)?;
     push_value(alloc, text, "acts_clients", "{port=\"view\"}", views)
+}
+
+/// Appends the lines of the longest silence of a runner with a lease.
+pub(crate) fn push_silence(alloc: Global, text: &mut String, silence: u64) -> Result<(), AllocError>
+    ensures { OnOk result (string_bytes text.new ≡ string_bytes text.old ++ silence_lines silence) }
+{
+    push_metric(
+        alloc,
+        text,
+        "acts_longest_silence_seconds",
+        "gauge",
+        "Seconds since the runner with a lease that is silent for longest was heard.",
+        silence,
+    )
 }
 
 /// Appends the lines of the file.

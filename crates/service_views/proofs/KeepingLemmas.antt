@@ -1,10 +1,9 @@
 -- What is kept after one more entry.
 use Rattle.std.proofs.Common.{◌≡◌, ◌∙◌, ◌≤◌, ◌+◌, ◌<◌, ℕ, List, [], ◌∷◌, ◌++◌, length, take, drop, map, ap, refl, sym, subst, arith, append_assoc, length-take, inl, inr}
 use Rattle.std.proofs.lemmas.Bool.{leb-false, leb-true}
-use Rattle.std.proofs.lemmas.List.{drop-append-le, drop_all, map-append, take_more}
+use Rattle.std.proofs.lemmas.List.{drop_all, map-append}
 use Rattle.std.proofs.lemmas.List.Folds.{list_any-append}
 use Rattle.std.proofs.lemmas.Slice.Eq.{bytes_eq-Decides}
-use Rattle.std.proofs.lemmas.Option.{get_or_from_slice_get, slice_get_within}
 use Rattle.std.specs.HashMap.{get_by_text}
 use Rattle.std.specs.List.{list_any}
 use Rattle.std.specs.Str.{bytes_eq}
@@ -13,6 +12,7 @@ use Rattle.std.specs.declared.time.Instant.{Instant}
 use Rattle.run_plan.specs.declared.reply.Reply.{Reply}
 use Rattle.act_store.specs.declared.entry.Entry.{Entry}
 use Rattle.service_metrics.specs.Counters.{CountersState, counters_of}
+use Rattle.service_views.proofs.FollowingLemmas.{entries_next}
 use Rattle.service_views.specs.Keeping.{Counts, HeardAt, Notes, comes_from, with_entries}
 use Rattle.service_views.specs.declared.kept.Kept.{Kept}
 
@@ -62,15 +62,6 @@ notes_both xs ys now old mid new first second = record {
   changes = second.changes ∙ first.changes;
   began = second.began ∙ first.began;
 }
-
--- the entries from an index to the next place
-entries_next : (history : List Entry) (from place : ℕ) (e : Entry) → from ≤ place → slice_get history place ≡ Some e
-    → drop from (take (place + 1) history) ≡ drop from (take place history) ++ e ∷ []
-entries_next history from place e order is =
-    let within : from ≤ length (take place history) = grind (arith, length-take place history, slice_get_within history place e is) in
-    ap (drop from) (take_more history place e (slice_get_within history place e is))
-    ∙ ap (λ (x : Entry). drop from (take place history ++ x ∷ [])) (get_or_from_slice_get history place e e is)
-    ∙ drop-append-le from (take place history) (e ∷ []) within
 
 -- the next entry of a history
 pub notes_next : (history : List Entry) (from place : ℕ) (e : Entry) (now : Instant) (old mid new : Kept) → from ≤ place → slice_get history place ≡ Some e

@@ -7,11 +7,14 @@ use Rattle.std.specs.Str.{bytes_eq}
 use Rattle.std.specs.declared.time.Instant.{Instant}
 use Rattle.run_plan.specs.declared.command.Command.{Command}
 use Rattle.run_plan.specs.declared.command.Command.TheVariants as command
-use Rattle.act_store.specs.StoreState.{StoreState}
+use Rattle.act_store.specs.StoreState.{StoreState, table_of}
 use Rattle.act_store.specs.declared.entry.Entry.{Entry}
+use Rattle.table_model.specs.TableState.{TableState}
+use Rattle.table_views.specs.LeaseNames.{no_names}
 use Rattle.covered_log.specs.LogState.{new_log}
+use Rattle.covered_log.specs.Standings.{standing_of}
 use Rattle.service_metrics.specs.Counters.{CountersState, Done, counters_of, nothing_done}
-use Rattle.service_views.specs.Following.{TakesUp}
+use Rattle.service_views.specs.Following.{NotesOf, TakesUp, Tells}
 use Rattle.service_views.specs.declared.kept.Kept.{Kept}
 
 -- ---- what is counted
@@ -58,17 +61,21 @@ pub record Notes (entries : List Entry) (now : Instant) (old new : Kept) : Type 
 abbrev pub covered_after : {D : Type 0} → ℕ → StoreState D → List Entry
 covered_after taken s = drop taken (take s.covered s.history)
 
--- what a service that begins now keeps
-pub record Begins (process : ℕ) (now : Instant) (k : Kept) : Type 0 where
+-- what a service that begins now with a table keeps
+pub record Begins (process : ℕ) (t : TableState) (now : Instant) (k : Kept) : Type 0 where
   pub log : k.changes.log ≡ new_log process
+  pub standings : k.changes.standings ≡ Some (map standing_of t.runs)
+  pub names : k.changes.names ≡ no_names
   pub taken : k.changes.taken ≡ 0
   pub counters : k.counters ≡ counters_of nothing_done
   pub began : k.began ≡ now
   pub heard : (name : List ℕ) → get_by_text k.heard name ≡ None
 
--- what was made durable since the last time is told, counted and heard
-pub record GoesOn {D : Type 0} (s : StoreState D) (now : Instant) (old new : Kept) : Type 0 where
+-- what was made durable since the last time is told, with the time of its commit, counted and heard
+pub record GoesOn {D : Type 0} (s : StoreState D) (at : ℕ) (now : Instant) (old new : Kept) : Type 0 where
   pub entered : TakesUp (covered_after old.changes.taken s) old.changes.log new.changes.log
+  pub told : (s.covered ≡ old.changes.taken) ⊎ Tells at (table_of s) (covered_after old.changes.taken s) old.changes new.changes
+  pub names : NotesOf (covered_after old.changes.taken s) old.changes.names new.changes.names
   pub taken : new.changes.taken ≡ s.covered
   pub counts : Counts (covered_after old.changes.taken s) old.counters new.counters
   pub hears : Hears (covered_after old.changes.taken s) now old new

@@ -10,10 +10,13 @@ use Rattle.service_metrics.specs.Metrics.{metrics_text}
 use Rattle.service_metrics.specs.declared.gauges.Gauges.{Gauges}
 use Rattle.store_copies.specs.Copies.{copy_bytes, file_of, fits}
 use Rattle.table_views.specs.HolderPages.{IsHolderPage}
+use Rattle.table_views.specs.LeaseNames.{NamesState}
 use Rattle.table_views.specs.ReadyPages.{IsReadyPage}
 use Rattle.table_views.specs.RunPages.{IsRunsPage}
 use Rattle.table_views.specs.RunViews.{IsRunView}
-use Rattle.table_views.specs.RunnerPages.{IsRunnerPage, index_after, one_runner}
+use Rattle.table_views.specs.RunBodies.{run_body}
+use Rattle.table_views.specs.RunnerPages.{IsRunnerPage, index_after}
+use Rattle.definitions.specs.Limits.{most_looked}
 use Rattle.view_sessions.specs.declared.answer.Content.TheVariants as content
 use Rattle.view_sessions.specs.declared.board_file.BoardFile.{BoardFile}
 use Rattle.view_sessions.specs.declared.cursor.Cursor.{Cursor}
@@ -27,7 +30,7 @@ use Rattle.view_sessions.specs.declared.view.View.{View}
 use Rattle.view_sessions.specs.declared.view.View.TheVariants as view
 use Rattle.wf_value.specs.declared.refusal.Refusal.{Refusal}
 use Rattle.service_views.specs.Boards.{board_bytes}
-use Rattle.service_views.specs.HeardTimes.{seconds_between, seconds_since}
+use Rattle.service_views.specs.HeardTimes.{longest_silence, seconds_between, seconds_since}
 use Rattle.service_views.specs.Behind.{IsKnown, cursor_line, lines_behind}
 use Rattle.service_views.specs.declared.board.Board.{Board}
 use Rattle.service_views.specs.declared.kept.Kept.{Kept}
@@ -73,10 +76,15 @@ abbrev pub rows : ℕ → ℕ
 rows limit = min limit 100
 
 -- a run, or that there is none with this id
-abbrev pub ShowsRun : TableState → RunQuery → Made → Type 0
-ShowsRun t q what =
-    ((seen : RunSeen) × (seen_of t.runs q.run ≡ Some seen) × IsJson (IsRunView (min q.from (length seen.run.jobs)) t seen) what)
+abbrev pub ShowsRun : NamesState → TableState → RunQuery → Made → Type 0
+ShowsRun names t q what =
+    ((seen : RunSeen) × (seen_of t.runs q.run ≡ Some seen) × IsJson (IsRunView (min q.from (length seen.run.jobs)) names t seen) what)
     ⊎ ((seen_of t.runs q.run ≡ None) × IsFault fault.UnknownRun what)
+
+-- the body of a run, or that there is none with this id
+abbrev pub ShowsBody : Option (List ℕ) → Made → Type 0
+ShowsBody None what = IsFault fault.UnknownRun what
+ShowsBody (Some body) what = IsJson (λ text. text ≡ body) what
 
 -- the index of the first runner after a name, or of the first of all
 abbrev pub first_runner : List RunnerState → Option (List ℕ) → ℕ
@@ -85,17 +93,18 @@ first_runner runners after = option_map_or (index_after runners) after 0
 abbrev pub seconds_of : Kept → Instant → List RunnerState → List (Option ℕ)
 seconds_of k now runners = map (λ runner. seconds_since k now runner.name) runners
 
-abbrev pub ShowsRunnersFrom : Kept → Instant → TableState → ℕ → ℕ → Made → Type 0
-ShowsRunnersFrom k now t from limit =
-    IsJson (IsRunnerPage (seconds_of k now (take limit (drop from t.runners))) from limit t)
+-- at how many runners a page of these many rows may look
+abbrev pub runners_ahead : Option (List ℕ) → ℕ → ℕ
+runners_ahead None limit = limit
+runners_ahead (Some name) limit = most_looked
 
--- the runner of a name alone, or those after a name
-abbrev pub ShowsRunnersNamed : Kept → Instant → TableState → RunnersQuery → Option (List ℕ) → Made → Type 0
-ShowsRunnersNamed k now t q None what = ShowsRunnersFrom k now t (first_runner t.runners q.after) (rows q.limit) what
-ShowsRunnersNamed k now t q (Some name) what = IsJson (λ text. text ≡ one_runner (seconds_since k now name) t.runners name) what
+-- the runners from an index on whose names begin with a text
+abbrev pub ShowsRunnersFrom : Kept → Instant → TableState → Option (List ℕ) → ℕ → ℕ → Made → Type 0
+ShowsRunnersFrom k now t name from limit =
+    IsJson (IsRunnerPage name (seconds_of k now (take (runners_ahead name limit) (drop from t.runners))) from limit t)
 
 abbrev pub ShowsRunners : Kept → Instant → TableState → RunnersQuery → Made → Type 0
-ShowsRunners k now t q = ShowsRunnersNamed k now t q q.name
+ShowsRunners k now t q = ShowsRunnersFrom k now t q.name (first_runner t.runners q.after) (rows q.limit)
 
 -- ---- changes
 
@@ -141,6 +150,7 @@ gauges_of k s = record {
   hooks = s.hooks;
   runners = s.runners;
   views = s.viewers;
+  silence = longest_silence k s.now s.table.now.runners;
   area = s.area;
   room = s.room;
   generation = s.generation;
@@ -158,7 +168,8 @@ later q is_over = record { after = q.after; wait = if is_over then 0 else 1 }
 -- what a service shows that has kept this, and is seen so; whether the head alone is asked for
 abbrev pub Shows : Kept → Seen → Bool → View → Made → Type 0
 Shows k s head_only (view.Runs q) = IsJson (IsRunsPage q.filter q.before (rows q.limit) s.table.now)
-Shows k s head_only (view.Run q) = ShowsRun s.table.now q
+Shows k s head_only (view.Run q) = ShowsRun k.changes.names s.table.now q
+Shows k s head_only (view.Body run) = ShowsBody (run_body s.table.now.runs run)
 Shows k s head_only (view.Queue q) = IsJson (IsReadyPage q.from (rows q.limit) s.table.now)
 Shows k s head_only (view.Runners q) = ShowsRunners k s.now s.table.now q
 Shows k s head_only (view.Groups q) = IsJson (IsHolderPage q.filter q.from (rows q.limit) s.table.now)

@@ -5,7 +5,7 @@ ghost use Rattle.std.specs.Duration.{as_nanos};
 ghost use Rattle.std.specs.HashMap.{get_by_text};
 ghost use Rattle.std.specs.Str.{bytes_eq};
 ghost use Rattle.service_metrics.specs.Counters.{Done, counters_of, with_commit};
-ghost use Rattle.service_views.specs.HeardTimes.{seconds_between, seconds_since};
+ghost use Rattle.service_views.specs.HeardTimes.{longest_silence, seconds_between, seconds_since, silence_of};
 ghost use Rattle.service_views.specs.Keeping.{Begins, GoesOn, HeardAt, Notes, covered_after, runner_of};
 ghost use Rattle.table_views.specs.MetricLines.{capped};
 
@@ -13,7 +13,7 @@ use crate::changes::Changes;
 use act_disk::Disk;
 use act_store::{Entry, Store};
 use run_plan::{Command, RunnerName};
-use run_table::Table;
+use run_table::{Runner, Table};
 use service_metrics::Counters;
 use std::alloc::{AllocError, Global};
 use std::collections::HashMap;
@@ -46,7 +46,7 @@ impl Kept {
     /// Promise (Views of a service): What a service keeps of itself begins with nothing, and a turn-over of the history changes none of it
     /// By: `service_views::Kept::new` (`Begins`); `service_views::Kept::turn_over`, `log`, `rest`
     pub fn new(alloc: Global, process: u64, now: Instant, table: &Table) -> Result<Kept, AllocError>
-        ensures { IfOk result (Begins process now) }
+        ensures { IfOk result (Begins process table.now now) }
     {
         Ok(Kept {
             changes: Changes::new(alloc, process, table)?,
@@ -93,19 +93,25 @@ impl Kept {
         }
     }
 
-    /// Takes up what was made durable since the last time. Returns whether there was something.
+    /// Takes up what was made durable since the last time, `at` in milliseconds since 1970. Returns whether there was something.
     /// Promise (Views of a service): Of what was made durable each entry is counted once, and the runner from which it comes was heard then.
     ///   Without memory a runner whose name is new stays unknown
     /// By: `service_views::Kept::take_up`, `goes_on` (`GoesOn`, `Counts`, `Hears`); `service_views::Kept::committed`, `counted`
-    pub fn take_up<D: Disk>(&mut self, alloc: Global, store: &Store<D>, now: Instant) -> bool
-        ensures goes_on { GoesOn store.now now self.old self.new }
+    pub fn take_up<D: Disk>(
+        &mut self,
+        alloc: Global,
+        store: &Store<D>,
+        at: u64,
+        now: Instant,
+    ) -> bool
+        ensures goes_on { GoesOn store.now at now self.old self.new }
         ensures some { result ≡ not (store.now.covered == self.old.changes.taken) }
     {
         if store.covered() == self.changes.taken() {
             return false;
         }
         self.note_new(alloc, store, now);
-        self.changes.take_up(alloc, store);
+        self.changes.take_up(alloc, store, at);
         true
     }
 
@@ -139,5 +145,29 @@ impl Kept {
     {
         let heard = self.heard.get(name)?;
         Some(now.saturating_duration_since(*heard).as_secs())
+    }
+
+    /// For how many whole seconds a runner with a lease was not heard; 0 of one without a lease.
+    fn silence_of(&self, runner: &Runner, now: Instant) -> u64
+        ensures { result ≡ silence_of self.now now runner.now }
+    {
+        match runner.holds {
+            Some(_) => self
+                .seconds_since(runner.name.as_str(), now)
+                .unwrap_or(self.uptime(now)),
+            None => 0,
+        }
+    }
+
+    /// For how many whole seconds the runner with a lease that is silent for longest was not heard; 0 if none has a lease.
+    #[tactic(auto, using(std::proofs::lemmas::List::Sums::fold_more))]
+    pub(crate) fn longest_silence(&self, runners: &[Runner], now: Instant) -> u64
+        ensures { result ≡ longest_silence self.now now runners.now }
+    {
+        let mut longest = 0;
+        for runner in runners {
+            longest = longest.max(self.silence_of(runner, now));
+        }
+        longest
     }
 }

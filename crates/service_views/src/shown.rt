@@ -4,22 +4,24 @@ ghost use Rattle.std.specs.Prelude.{◌≡◌, ◌≤◌, ◌<◌, ◌^◌, Err,
 ghost use Rattle.service_metrics.specs.Metrics.{metrics_text};
 ghost use Rattle.table_views.specs.HolderPages.{IsHolderPage};
 ghost use Rattle.table_views.specs.ReadyPages.{IsReadyPage};
+ghost use Rattle.table_views.specs.RunBodies.{run_body};
 ghost use Rattle.table_views.specs.RunPages.{IsRunsPage};
 ghost use Rattle.view_sessions.specs.declared.answer.Content.TheVariants as content;
 ghost use Rattle.service_views.specs.declared.shown.Made.TheVariants as made;
-ghost use Rattle.service_views.specs.Shown.{IsJson, IsMade, IsMetrics, IsPlain, IsShownOrNot, Shows, ShowsBehind, ShowsBoard, ShowsChanges, ShowsCopy, ShowsRun, ShowsRunners, ShowsRunnersFrom, asked_changes, first_runner, gauges_of, later, or_no_memory, rows, seconds_of};
+ghost use Rattle.service_views.specs.Shown.{IsJson, IsMade, IsMetrics, IsPlain, IsShownOrNot, Shows, ShowsBehind, ShowsBoard, ShowsBody, ShowsChanges, ShowsCopy, ShowsRun, ShowsRunners, ShowsRunnersFrom, asked_changes, first_runner, gauges_of, later, or_no_memory, rows, runners_ahead, seconds_of};
 
 use crate::behind::{Found, behind, present};
 use crate::board::Board;
 use crate::kept::Kept;
 use covered_log::CoveredLog;
+use run_plan::Number;
 use run_table::{Runner, Table};
 use service_metrics::{Gauges, metrics_text};
 use std::alloc::{AllocError, Global};
 use std::time::Instant;
 use store_copies::copy_of;
 use table_views::{
-    holder_page, index_after, one_runner, ready_page, run_view, runner_page, runs_page,
+    LeaseNames, holder_page, index_after, ready_page, run_body, run_view, runner_page, runs_page,
 };
 use view_sessions::{
     Answer, BoardFile, ChangesQuery, Content, Cursor, GroupsQuery, QueueQuery, RunQuery,
@@ -29,6 +31,9 @@ use wf_value::{Chars, Refusal};
 
 /// The most rows of a page.
 const MAX_ROWS: usize = 100;
+
+/// The most runners at which a page looks.
+const MAX_LOOKED: usize = 10_000;
 
 /// What is shown: the table, the version of the program, its board, the length of an area and its room, its generation, how many clients each port
 /// has, and how many checkpoints were finished.
@@ -118,10 +123,19 @@ fn runs(alloc: Global, table: &Table, query: &RunsQuery) -> Result<Made, Refusal
     )?)
 }
 
-fn run(alloc: Global, table: &Table, query: RunQuery) -> Result<Made, Refusal>
-    ensures { IfOk result (ShowsRun table.now query) }
+fn run(alloc: Global, table: &Table, names: &LeaseNames, query: RunQuery) -> Result<Made, Refusal>
+    ensures { IfOk result (ShowsRun names.now table.now query) }
 {
-    match run_view(alloc, table, query.run, query.from)? {
+    match run_view(alloc, table, names, query.run, query.from)? {
+        Some(text) => json(text),
+        None => fault(ViewFault::UnknownRun),
+    }
+}
+
+fn body(alloc: Global, table: &Table, run: Number) -> Result<Made, Refusal>
+    ensures { IfOk result (ShowsBody (run_body table.now.runs run)) }
+{
+    match run_body(alloc, table, run)? {
         Some(text) => json(text),
         None => fault(ViewFault::UnknownRun),
     }
@@ -210,6 +224,16 @@ fn first_runner(table: &Table, after: &Option<Chars>) -> usize
     }
 }
 
+/// At how many runners a page of so many rows may look.
+fn runners_ahead(name: &Option<Chars>, limit: usize) -> usize
+    ensures { result ≡ runners_ahead name.now limit }
+{
+    match name {
+        Some(_) => MAX_LOOKED,
+        None => limit,
+    }
+}
+
 impl Kept {
     /// How many seconds ago each of these runners was heard.
     fn seconds_of(
@@ -231,28 +255,25 @@ impl Kept {
         &self,
         alloc: Global,
         seen: Seen<'_>,
+        name: &Option<Chars>,
         from: usize,
         limit: usize,
     ) -> Result<Made, Refusal>
         requires within { from ≤ length seen.table.now.runners }
         requires few { limit < 2 ^ 32 }
-        ensures { IfOk result (ShowsRunnersFrom self.now seen.entry.now seen.entry.table.now from limit) }
+        ensures { IfOk result (ShowsRunnersFrom self.now seen.entry.now seen.entry.table.now name.now from limit) }
     {
         let runners = seen.table.runners();
-        let end = from + limit.min(runners.len() - from);
+        let end = from + runners_ahead(name, limit).min(runners.len() - from);
         let heard = self.seconds_of(alloc, &runners[from..end], seen.now)?;
-        json(runner_page(alloc, seen.table, heard.as_slice(), from, limit)?)
+        json(runner_page(alloc, seen.table, name, heard.as_slice(), from, limit)?)
     }
 
     fn runners(&self, alloc: Global, seen: Seen<'_>, query: &RunnersQuery) -> Result<Made, Refusal>
         ensures { IfOk result (ShowsRunners self.now seen.entry.now seen.entry.table.now query.now) }
     {
-        if let Some(name) = &query.name {
-            let heard = self.seconds_since(name.as_str(), seen.now);
-            return json(one_runner(alloc, seen.table, name.as_str(), heard)?);
-        }
         let from = first_runner(seen.table, &query.after);
-        self.runners_from(alloc, seen, from, query.limit.min(MAX_ROWS))
+        self.runners_from(alloc, seen, &query.name, from, query.limit.min(MAX_ROWS))
     }
 
     fn metrics(&self, alloc: Global, seen: Seen<'_>) -> Result<Made, Refusal>
@@ -264,6 +285,7 @@ impl Kept {
             hooks: seen.hooks as u64,
             runners: seen.runners as u64,
             views: seen.viewers as u64,
+            silence: self.longest_silence(seen.table.runners(), seen.now),
             area: seen.area,
             room: seen.room,
             generation: seen.generation,
@@ -285,7 +307,8 @@ impl Kept {
     {
         match view {
             View::Runs(query) => runs(alloc, seen.table, query),
-            View::Run(query) => run(alloc, seen.table, *query),
+            View::Run(query) => run(alloc, seen.table, self.changes.names(), *query),
+            View::Body(run) => body(alloc, seen.table, *run),
             View::Queue(query) => queue(alloc, seen.table, *query),
             View::Runners(query) => self.runners(alloc, seen, query),
             View::Groups(query) => groups(alloc, seen.table, query),

@@ -1,4 +1,4 @@
--- The lines of changes: entries of the history, and runs as they are after a commit. The format is defined by this project.
+-- The lines of changes: entries of the history, and runs and legs as they are after a commit. The format is defined by this project.
 use Rattle.std.specs.Prelude.{ℕ, List, ◌++◌, codes, decimal, length, map}
 use Rattle.wf_value.specs.ScalarValue.{outcome_word}
 use Rattle.wf_reader.specs.Event.{event_of}
@@ -13,9 +13,11 @@ use Rattle.run_plan.specs.declared.command.Done.{Done}
 use Rattle.run_plan.specs.declared.reply.Reply.{Reply}
 use Rattle.run_plan.specs.declared.reply.Reply.TheVariants as reply
 use Rattle.table_model.specs.Runs.{RunState}
-use Rattle.table_views.specs.Members.{member}
-use Rattle.table_views.specs.RunRows.{state_members}
+use Rattle.table_model.specs.ViewText.{Seen, leg_text}
+use Rattle.table_views.specs.Members.{member, number_or_null, text_or_null}
+use Rattle.table_views.specs.RunRows.{run_members, state_members}
 use Rattle.table_views.specs.Texts.{line, listed, quoted}
+use Rattle.table_views.specs.declared.told_legs.LegNews.{LegNews}
 
 -- ---- commands, without a body
 
@@ -76,16 +78,38 @@ short_reply c (reply.Run view) = short_view c view
 short_reply c (reply.Body body) = codes "body " ++ decimal (length body)
 short_reply c r = reply_text r
 
--- ---- lines
+-- ---- lines. Each ends with the time of its commit, in milliseconds since 1970.
 
 -- an entry with its place
-unfoldable pub entry_line : ℕ → Command → Reply → List ℕ
-entry_line place c r =
+unfoldable pub entry_line : ℕ → ℕ → Command → Reply → List ℕ
+entry_line place at c r =
     line (codes "{\"entry\":" ++ decimal place ++ member (codes "command") (command_json c)
-    ++ member (codes "reply") (quoted (short_reply c r)) ++ codes "}")
+    ++ member (codes "reply") (quoted (short_reply c r)) ++ member (codes "at") (decimal at) ++ codes "}")
+
+-- a run that begins an attempt, with all members of its row, as it is after the entries up to a place
+unfoldable pub attempt_line : ℕ → ℕ → List RunState → Seen → List ℕ
+attempt_line place at runs seen =
+    line (codes "{\"after\":" ++ decimal place ++ codes "," ++ run_members runs seen ++ member (codes "at") (decimal at) ++ codes "}")
 
 -- a run with its id, as it is after the entries up to a place
-unfoldable pub run_change_line : ℕ → ℕ → RunState → List ℕ
-run_change_line place id run =
+unfoldable pub run_change_line : ℕ → ℕ → ℕ → RunState → List ℕ
+run_change_line place at id run =
     line (codes "{\"after\":" ++ decimal place ++ member (codes "run") (decimal id) ++ member (codes "attempt") (decimal run.attempt)
-    ++ state_members run ++ codes "}")
+    ++ state_members run ++ member (codes "at") (decimal at) ++ codes "}")
+
+-- where a leg is
+abbrev pub place_members : LegNews → List ℕ
+place_members news =
+    member (codes "run") (decimal news.run) ++ member (codes "attempt") (decimal news.attempt) ++ member (codes "job") (quoted news.job)
+    ++ member (codes "leg") (decimal news.leg)
+
+-- how a leg stands
+abbrev pub leg_state_members : LegNews → List ℕ
+leg_state_members news =
+    member (codes "state") (quoted (leg_text news.state.phase)) ++ member (codes "lease") (number_or_null news.state.lease)
+    ++ member (codes "runner") (text_or_null news.runner)
+
+-- a leg, as it is after the entries up to a place
+unfoldable pub leg_change_line : ℕ → ℕ → LegNews → List ℕ
+leg_change_line place at news =
+    line (codes "{\"after\":" ++ decimal place ++ place_members news ++ leg_state_members news ++ member (codes "at") (decimal at) ++ codes "}")

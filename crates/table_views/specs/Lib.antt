@@ -2,6 +2,7 @@ pub mod ChangeLines
 pub mod Distinct
 pub mod GroupLines
 pub mod HolderPages
+pub mod LeaseNames
 pub mod LegCounting
 pub mod Members
 pub mod MetricLines
@@ -9,6 +10,7 @@ pub mod NamedCounts
 pub mod Pages
 pub mod QueueLines
 pub mod ReadyPages
+pub mod RunBodies
 pub mod RunCounting
 pub mod RunFilters
 pub mod RunLines

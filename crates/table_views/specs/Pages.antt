@@ -1,6 +1,6 @@
 -- Pages of long lists. A source gives rows at each of its indices, which count from 0; rows have a weight, which is their number, or that of
 -- what they list. A page begins at an index, and looks at so many indices that its rows have a wanted weight, at most at a given number.
-use Rattle.std.specs.Prelude.{◌≡◌, ◌⊎◌, ℕ, zero, suc, ◌+◌, ◌<◌, ◌≤◌, List, [], ◌++◌, codes}
+use Rattle.std.specs.Prelude.{◌≡◌, ◌⊎◌, ℕ, zero, suc, ◌+◌, ◌<◌, ◌≤◌, List, [], ◌++◌, codes, decimal}
 use Rattle.table_views.specs.Members.{member}
 use Rattle.table_views.specs.Texts.{line, listed}
 
@@ -21,6 +21,7 @@ pub record IsPage (weigh : ℕ → ℕ) (from left full most count : ℕ) : Type
   pub unfilled : (k : ℕ) → k < count → weight_from weigh from k < full
   pub ends : (count ≡ left) ⊎ (count ≡ most) ⊎ (full ≤ weight_from weigh from count)
 
--- the text of a page: its rows under their name, and where to go on
-abbrev pub page_text : List ℕ → List (List ℕ) → List ℕ → List ℕ → List ℕ
-page_text name rows cursor value = line (codes "{\"" ++ name ++ codes "\":" ++ listed rows ++ member cursor value ++ codes "}")
+-- the text of a page: its rows under their name, at how many indices it looked, and where to go on
+abbrev pub page_text : List ℕ → List (List ℕ) → ℕ → List ℕ → List ℕ → List ℕ
+page_text name rows looked cursor value =
+    line (codes "{\"" ++ name ++ codes "\":" ++ listed rows ++ member (codes "looked") (decimal looked) ++ member cursor value ++ codes "}")

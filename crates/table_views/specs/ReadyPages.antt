@@ -29,5 +29,5 @@ next_run runs index = if nat_lt index runs then Some (index + 1) else None
 pub record IsReadyPage (from limit : ℕ) (t : TableState) (text : List ℕ) : Type 0 where
   pub count : ℕ
   pub page : IsPage (λ r. length (ready_rows t.runs r)) (start_at t.runs from) (length t.runs - start_at t.runs from) limit most_looked count
-  pub is : text ≡ page_text (codes "queue") (rows_from (ready_rows t.runs) (start_at t.runs from) count)
+  pub is : text ≡ page_text (codes "queue") (rows_from (ready_rows t.runs) (start_at t.runs from) count) count
       (codes "from") (number_or_null (next_run (length t.runs) (start_at t.runs from + count)))

@@ -33,5 +33,5 @@ next_below top count = if nat_lt count top then Some (top - count + 1) else None
 pub record IsRunsPage (f : RunFilter) (before : Option ℕ) (limit : ℕ) (t : TableState) (text : List ℕ) : Type 0 where
   pub count : ℕ
   pub page : IsPage (λ index. length (newest_rows f t.runs (runs_below t.runs before) index)) 0 (runs_below t.runs before) limit most_looked count
-  pub is : text ≡ page_text (codes "runs") (rows_from (newest_rows f t.runs (runs_below t.runs before)) 0 count)
+  pub is : text ≡ page_text (codes "runs") (rows_from (newest_rows f t.runs (runs_below t.runs before)) 0 count) count
       (codes "before") (number_or_null (next_below (runs_below t.runs before) count))

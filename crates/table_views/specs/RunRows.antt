@@ -1,5 +1,7 @@
 -- A run as a row of a list. The format is defined by this project. GitHub Docs, "REST API endpoints for workflow runs" and "Contexts reference".
-use Rattle.std.specs.Prelude.{ℕ, ◌-◌, List, [], ◌∷◌, ◌++◌, codes, decimal, Option, Some, None, option_map, option_and_then}
+use Rattle.std.specs.Prelude.{ℕ, ◌-◌, ◌==◌, List, [], ◌∷◌, ◌++◌, codes, decimal, Option, Some, None, option_map, option_and_then}
+use Rattle.std.specs.List.{before_first}
+use Rattle.std.specs.Option.{option_or}
 use Rattle.wf_value.specs.ScalarValue.{outcome_word}
 use Rattle.wf_value.specs.declared.scalar.Scalar.{Scalar}
 use Rattle.wf_value.specs.declared.scalar.Scalar.TheVariants as scalar
@@ -23,9 +25,31 @@ abbrev pub text_of : Scalar → Option (List ℕ)
 text_of (scalar.Text text) = Some text
 text_of _ = None
 
--- `github.ref` of what was admitted, if it is a text
+-- the text at a path of the contexts that the sender supplied, if there is one
+abbrev pub sent_text : List (List ℕ) → Admitted → Option (List ℕ)
+sent_text path event = option_and_then text_of (sent_value (event_of event.body).contexts path)
+
+-- a member of `github`, if it is a text
+abbrev pub github_text : List ℕ → Admitted → Option (List ℕ)
+github_text name event = sent_text (codes "github" ∷ name ∷ []) event
+
 abbrev pub ref_of : Admitted → Option (List ℕ)
-ref_of event = option_and_then text_of (sent_value (event_of event.body).contexts (codes "github" ∷ codes "ref" ∷ []))
+ref_of event = github_text (codes "ref") event
+
+-- the bytes before the first line feed, or all
+abbrev pub first_line : List ℕ → List ℕ
+first_line text = before_first (λ b. b == 10) text
+
+-- the title of the pull request, where the sender put it there
+abbrev pub pull_title : Admitted → Option (List ℕ)
+pull_title event = sent_text (codes "github" ∷ codes "event" ∷ codes "pull_request" ∷ codes "title" ∷ []) event
+
+-- the first line of the head commit's message, where the sender put it there
+abbrev pub commit_title : Admitted → Option (List ℕ)
+commit_title event = option_map first_line (sent_text (codes "github" ∷ codes "event" ∷ codes "head_commit" ∷ codes "message" ∷ []) event)
+
+abbrev pub title_of : Admitted → Option (List ℕ)
+title_of event = option_or (pull_title event) (commit_title event)
 
 -- the conclusion, once the run has completed
 abbrev pub conclusion_at : RunPhase → List JobState → Option (List ℕ)
@@ -54,6 +78,16 @@ event_members event =
     member (codes "event") (quoted event.event) ++ member (codes "delivery") (quoted event.delivery)
     ++ member (codes "ref") (text_or_null (ref_of event))
 
+-- a member of `github` under its name
+abbrev pub github_member : List ℕ → Admitted → List ℕ
+github_member name event = member name (text_or_null (github_text name event))
+
+-- what the run is of, and who began it
+abbrev pub head_members : Admitted → List ℕ
+head_members event =
+    github_member (codes "sha") event ++ github_member (codes "ref_name") event ++ github_member (codes "head_ref") event
+    ++ github_member (codes "actor") event ++ member (codes "title") (text_or_null (title_of event))
+
 abbrev pub state_members : RunState → List ℕ
 state_members run =
     member (codes "status") (quoted (status_text run.phase run.jobs))
@@ -61,8 +95,8 @@ state_members run =
 
 abbrev pub run_members : List RunState → Seen → List ℕ
 run_members runs seen =
-    number_members seen ++ origin_members seen.run.admitted ++ event_members seen.run.admitted ++ state_members seen.run
-    ++ member (codes "group") (text_or_null (own_group runs seen.id))
+    number_members seen ++ origin_members seen.run.admitted ++ event_members seen.run.admitted ++ head_members seen.run.admitted
+    ++ state_members seen.run ++ member (codes "group") (text_or_null (own_group runs seen.id))
 
 abbrev pub run_row : List RunState → Seen → List ℕ
 run_row runs seen = codes "{" ++ run_members runs seen ++ codes "}"

@@ -1,7 +1,7 @@
 -- One run with its jobs and legs, and what each waits for. The format is defined by this project. GitHub Docs, "Workflow syntax for GitHub
 -- Actions": jobs.<job_id>.needs, .runs-on, .strategy.max-parallel, .concurrency.
 use Rattle.std.specs.Prelude.{◌≡◌, ℕ, ◌+◌, ◌-◌, List, [], ◌∷◌, ◌++◌, codes, decimal, find, length, map, nat_eq, nat_lt, slice_get, Bool, false, Option, Some, None, option_map, option_and_then, if◌then◌else◌}
-use Rattle.std.specs.Option.{option_map_or}
+use Rattle.std.specs.Option.{option_map_or, option_or}
 use Rattle.group_name.specs.KeyTexts.{name_bytes}
 use Rattle.run_plan.specs.PlanOf.{plan_of}
 use Rattle.run_plan.specs.ReplyText.{combo_text}
@@ -9,7 +9,7 @@ use Rattle.run_plan.specs.declared.planned.PlannedJob.{PlannedJob}
 use Rattle.table_model.specs.Fitting.{may_run_too, is_at_work, most_at_work}
 use Rattle.table_model.specs.Groups.{group_at}
 use Rattle.table_model.specs.Runs.{placed, leg_site, JobState, LegState, RunState}
-use Rattle.table_model.specs.LegContext.{combo_at}
+use Rattle.table_model.specs.LegContext.{combo_at, job_id}
 use Rattle.table_model.specs.declared.holder.Holder.TheVariants.{Leg}
 use Rattle.table_model.specs.declared.phases.LegPhase.{LegPhase}
 use Rattle.table_model.specs.declared.phases.LegPhase.TheVariants as leg
@@ -18,12 +18,14 @@ use Rattle.table_model.specs.declared.phases.RunPhase.TheVariants as phase
 use Rattle.table_model.specs.declared.sites.LegSite.{LegSite}
 use Rattle.table_model.specs.TableState.{RunnerState, TableState}
 use Rattle.table_model.specs.ViewText.{Seen, leg_text}
+use Rattle.table_views.specs.LeaseNames.{NamesState, name_of}
 use Rattle.table_views.specs.Members.{member, number_or_null, text_or_null}
 use Rattle.table_views.specs.Pages.{IsPage, rows_from}
 use Rattle.table_views.specs.QueueLines.{labels_json}
 use Rattle.table_views.specs.RunLines.{state_text}
 use Rattle.table_views.specs.RunRows.{own_group, run_members}
 use Rattle.table_views.specs.Texts.{line, listed, quoted}
+use Rattle.table_views.specs.declared.told_legs.LegNews.{LegNews}
 use Rattle.definitions.specs.Limits.{most_looked}
 
 -- ---- what is waited for
@@ -65,11 +67,26 @@ abbrev pub runner_of : List RunnerState → LegState → Option (List ℕ)
 runner_of runners l =
     if is_at_work l.phase then option_and_then (λ lease. option_map (λ runner. runner.name) (find (holds_lease lease) runners)) l.lease else None
 
+-- the runner that is at work on a leg, else the one to which its lease was given, if that is known
+abbrev pub leg_runner : NamesState → List RunnerState → LegState → Option (List ℕ)
+leg_runner names runners l = option_or (runner_of runners l) (option_and_then (name_of names) l.lease)
+
+-- a leg at a site, in an attempt of its run, as a line of changes tells it
+abbrev pub leg_news : NamesState → TableState → LegSite → ℕ → LegState → LegNews
+leg_news names t p attempt l = record {
+  run = p.run + 1;
+  attempt = attempt;
+  job = job_id t.runs p.run p.job;
+  leg = p.leg;
+  state = l;
+  runner = leg_runner names t.runners l;
+}
+
 -- how it stands
-abbrev pub standing_members : TableState → LegSite → LegState → List ℕ
-standing_members t p l =
+abbrev pub standing_members : NamesState → TableState → LegSite → LegState → List ℕ
+standing_members names t p l =
     member (codes "combination") (combo_text (combo_at t.runs p)) ++ member (codes "state") (quoted (leg_text l.phase))
-    ++ member (codes "lease") (number_or_null l.lease) ++ member (codes "runner") (text_or_null (runner_of t.runners l))
+    ++ member (codes "lease") (number_or_null l.lease) ++ member (codes "runner") (text_or_null (leg_runner names t.runners l))
 
 -- what it asks for and waits for
 abbrev pub wish_members : List RunState → LegSite → LegState → List ℕ
@@ -77,28 +94,28 @@ wish_members runs p l =
     member (codes "labels") (labels_json runs p) ++ member (codes "group") (text_or_null (leg_group runs p))
     ++ member (codes "waits_for") (leg_waits_for runs p l.phase)
 
-abbrev pub leg_row : TableState → LegSite → LegState → List ℕ
-leg_row t p l = codes "{\"leg\":" ++ decimal p.leg ++ standing_members t p l ++ wish_members t.runs p l ++ codes "}"
+abbrev pub leg_row : NamesState → TableState → LegSite → LegState → List ℕ
+leg_row names t p l = codes "{\"leg\":" ++ decimal p.leg ++ standing_members names t p l ++ wish_members t.runs p l ++ codes "}"
 
 -- ---- a job
 
-abbrev pub leg_rows : TableState → ℕ → ℕ → List LegState → List (List ℕ)
-leg_rows t r j legs = map (λ l. leg_row t (leg_site r j l.0) l.1) (placed legs)
+abbrev pub leg_rows : NamesState → TableState → ℕ → ℕ → List LegState → List (List ℕ)
+leg_rows names t r j legs = map (λ l. leg_row names t (leg_site r j l.0) l.1) (placed legs)
 
 -- what a job needs, and how many of its legs may be at work
 unfoldable pub plan_members : PlannedJob → List ℕ
 plan_members planned =
     member (codes "needs") (listed (map quoted planned.needs)) ++ member (codes "max_parallel") (number_or_null planned.max_parallel)
 
-abbrev pub job_row : TableState → ℕ → ℕ → PlannedJob → JobState → List ℕ
-job_row t r j planned job =
+abbrev pub job_row : NamesState → TableState → ℕ → ℕ → PlannedJob → JobState → List ℕ
+job_row names t r j planned job =
     codes "{\"id\":" ++ quoted planned.id ++ member (codes "state") (quoted (state_text job.phase)) ++ plan_members planned
-    ++ member (codes "legs") (listed (leg_rows t r j job.legs)) ++ codes "}"
+    ++ member (codes "legs") (listed (leg_rows names t r j job.legs)) ++ codes "}"
 
 -- the row of job `j` of run `r`
-abbrev pub job_rows : TableState → ℕ → RunState → ℕ → List (List ℕ)
-job_rows t r run j =
-    option_map_or (λ job. option_map_or (λ planned. job_row t r j planned job ∷ []) (slice_get (plan_of run.admitted.body) j) [])
+abbrev pub job_rows : NamesState → TableState → ℕ → RunState → ℕ → List (List ℕ)
+job_rows names t r run j =
+    option_map_or (λ job. option_map_or (λ planned. job_row names t r j planned job ∷ []) (slice_get (plan_of run.admitted.body) j) [])
     (slice_get run.jobs j) []
 
 abbrev pub legs_of_job : RunState → ℕ → ℕ
@@ -125,7 +142,7 @@ run_view_text t seen jobs next =
     ++ member (codes "jobs") (listed jobs) ++ member (codes "from") (number_or_null next) ++ codes "}")
 
 -- the text of a run with its jobs from an index on
-pub record IsRunView (from : ℕ) (t : TableState) (seen : Seen) (text : List ℕ) : Type 0 where
+pub record IsRunView (from : ℕ) (names : NamesState) (t : TableState) (seen : Seen) (text : List ℕ) : Type 0 where
   pub count : ℕ
   pub page : IsPage (legs_of_job seen.run) from (length seen.run.jobs - from) full_run most_looked count
-  pub is : text ≡ run_view_text t seen (rows_from (job_rows t (seen.id - 1) seen.run) from count) (next_job (length seen.run.jobs) (from + count))
+  pub is : text ≡ run_view_text t seen (rows_from (job_rows names t (seen.id - 1) seen.run) from count) (next_job (length seen.run.jobs) (from + count))

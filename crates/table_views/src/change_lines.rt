@@ -1,16 +1,20 @@
-//! The lines of changes: entries of the history, and runs whose state has changed.
+//! The lines of changes: entries of the history, and runs and legs whose state has changed.
 
-ghost use Rattle.std.specs.Prelude.{◌≡◌, IfOk, Ok, length, map, string_bytes};
+ghost use Rattle.std.specs.Prelude.{◌≡◌, ◌++◌, IfOk, Ok, length, map, string_bytes};
 ghost use Rattle.wf_value.specs.Gives.{Gives};
-ghost use Rattle.table_views.specs.ChangeLines.{admit_json, beat_json, claim_json, command_json, done_json, entry_line, json_of_run, lost_json, named, rerun_json, run_change_line, short_reply, short_view};
-ghost use Rattle.table_views.specs.Texts.{quoted};
+ghost use Rattle.table_views.specs.ChangeLines.{admit_json, beat_json, claim_json, command_json, done_json, entry_line, json_of_run, leg_change_line, leg_state_members, lost_json, named, attempt_line, place_members, rerun_json, run_change_line, short_reply, short_view};
+ghost use Rattle.table_views.specs.Texts.{listed, quoted};
 
-use crate::members::{push_member, push_number, push_text};
-use crate::run_rows::push_state;
+use crate::members::{number_or_null, push_member, push_number, push_text, push_text_or_null};
+use crate::one_run::lease_number;
+use crate::run_rows::{as_text, push_state, run_members};
 use crate::texts::{listed, quoted};
+use crate::told_legs::LegNews;
 use run_plan::{Attempt, Beat, Claim, Command, Done, Label, Number, Prepared, Reply, RunnerName};
+use run_table::{RunView, leg_word};
 use std::alloc::{AllocError, Global};
 use table_model::Run;
+use table_runs::runs::Runs;
 use wf_value::{Chars, Refusal, TryCopy};
 
 // ---- commands, without a body
@@ -46,11 +50,18 @@ fn quoted_labels(alloc: Global, labels: &[Label]) -> Result<Vec<Chars>, Refusal>
     Ok(texts)
 }
 
+/// The labels of a runner, as JSON.
+pub(crate) fn labels_text(alloc: Global, labels: &[Label]) -> Result<String, Refusal>
+    ensures { Gives string_bytes result (Ok (listed (map quoted labels.now))) }
+{
+    let labels = quoted_labels(alloc, labels)?;
+    listed(alloc, labels.as_slice())
+}
+
 fn claim_json(alloc: Global, claim: &Claim) -> Result<String, Refusal>
     ensures { Gives string_bytes result (Ok (claim_json claim.now)) }
 {
-    let labels = quoted_labels(alloc, claim.labels.as_slice())?;
-    let labels = listed(alloc, labels.as_slice())?;
+    let labels = labels_text(alloc, claim.labels.as_slice())?;
     let mut text = named(alloc, "claim")?;
     push_text(alloc, &mut text, "runner", claim.runner.as_str())?;
     push_number(&mut text, "number", u64::from(claim.number.get()))?;
@@ -155,36 +166,103 @@ fn short_reply(alloc: Global, command: &Command, reply: &Reply) -> Result<Chars,
     }
 }
 
-// ---- lines
+// ---- lines. `at` is the time of the commit, in milliseconds since 1970.
 
 /// The line of an entry at a place of the history.
 #[tactic(auto, unfolding(crate::specs::ChangeLines::entry_line))]
 pub fn entry_line(
     alloc: Global,
     place: u64,
+    at: u64,
     command: &Command,
     reply: &Reply,
 ) -> Result<String, Refusal>
-    ensures { Gives string_bytes result (Ok (entry_line place command.now reply.now)) }
+    ensures { Gives string_bytes result (Ok (entry_line place at command.now reply.now)) }
 {
     let command_text = command_json(alloc, command)?;
     let reply = short_reply(alloc, command, reply)?;
     let mut text = format!(in alloc; "{{\"entry\":{place}")?;
     push_member(&mut text, "command", command_text.as_str())?;
     push_text(alloc, &mut text, "reply", reply.as_str())?;
+    push_number(&mut text, "at", at)?;
+    text.push_str("}\n")?;
+    Ok(text)
+}
+
+/// The line of a run that begins an attempt, with its row, as it is after the entries up to a place.
+#[tactic(auto, unfolding(crate::specs::ChangeLines::attempt_line))]
+pub fn attempt_line(
+    alloc: Global,
+    place: u64,
+    at: u64,
+    runs: &Runs,
+    view: &RunView<'_>,
+) -> Result<String, Refusal>
+    ensures { Gives string_bytes result (Ok (attempt_line place at runs.now view.now)) }
+{
+    let members = run_members(alloc, runs, view)?;
+    let mut text = format!(in alloc; "{{\"after\":{place},{members}")?;
+    push_number(&mut text, "at", at)?;
     text.push_str("}\n")?;
     Ok(text)
 }
 
 /// The line of a run as it is after the entries up to a place.
 #[tactic(auto, unfolding(crate::specs::ChangeLines::run_change_line))]
-pub fn run_change_line(alloc: Global, place: u64, id: Number, run: &Run) -> Result<String, Refusal>
-    ensures { Gives string_bytes result (Ok (run_change_line place id run.now)) }
+pub fn run_change_line(
+    alloc: Global,
+    place: u64,
+    at: u64,
+    id: Number,
+    run: &Run,
+) -> Result<String, Refusal>
+    ensures { Gives string_bytes result (Ok (run_change_line place at id run.now)) }
 {
     let mut text = format!(in alloc; "{{\"after\":{place}")?;
     push_number(&mut text, "run", u64::from(id.get()))?;
     push_number(&mut text, "attempt", u64::from(run.attempt().get()))?;
     push_state(alloc, &mut text, run)?;
+    push_number(&mut text, "at", at)?;
+    text.push_str("}\n")?;
+    Ok(text)
+}
+
+/// Appends where a leg is.
+fn push_place(alloc: Global, text: &mut String, news: &LegNews) -> Result<(), Refusal>
+    ensures { Gives (λ _. string_bytes text.new) result (Ok (string_bytes text.old ++ place_members news.now)) }
+{
+    push_number(text, "run", u64::from(news.run.get()))?;
+    push_number(text, "attempt", u64::from(news.attempt.get()))?;
+    push_text(alloc, text, "job", news.job.as_str())?;
+    push_number(text, "leg", news.leg as u64)?;
+    Ok(())
+}
+
+/// Appends how a leg stands.
+fn push_leg_state(alloc: Global, text: &mut String, news: &LegNews) -> Result<(), Refusal>
+    ensures { Gives (λ _. string_bytes text.new) result (Ok (string_bytes text.old ++ leg_state_members news.now)) }
+{
+    push_text(alloc, text, "state", leg_word(news.state.phase))?;
+    let lease = number_or_null(alloc, lease_number(&news.state))?;
+    push_member(text, "lease", lease.as_str())?;
+    push_text_or_null(alloc, text, "runner", as_text(&news.runner))?;
+    Ok(())
+}
+
+/// The line of a leg as it is after the entries up to a place.
+#[tactic(auto, unfolding(crate::specs::ChangeLines::leg_change_line))]
+pub fn leg_change_line(
+    alloc: Global,
+    place: u64,
+    at: u64,
+    news: &LegNews,
+) -> Result<String, Refusal>
+    ensures { Gives string_bytes result (Ok (leg_change_line place at news.now)) }
+{
+    let mut text = format!(in alloc; "{{\"after\":{place}")?;
+    push_place(alloc, &mut text, news)?;
+    push_leg_state(alloc, &mut text, news)?;
+    push_number(&mut text, "at", at)?;
     text.push_str("}\n")?;
     Ok(text)
 }

@@ -160,5 +160,12 @@ pub fn holder_page(
     let left = runs.len() - start;
     let page = page_of(alloc, &Holders { runs, filter }, start, left, limit)?;
     let next = number_or_null(alloc, next_run(runs.len(), start + page.count))?;
-    page_text(alloc, "groups", page.rows.as_slice(), "from", next.as_str())
+    page_text(
+        alloc,
+        "groups",
+        page.rows.as_slice(),
+        page.count,
+        "from",
+        next.as_str(),
+    )
 }

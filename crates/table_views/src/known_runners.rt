@@ -1,15 +1,16 @@
 //! A page of the runners of a table, in the order of their names.
 
-ghost use Rattle.std.specs.Prelude.{◌≡◌, ◌≤◌, ◌<◌, ◌^◌, ◌+◌, IfOk, IfSome, Ok, length, option_map, slice_get, string_bytes};
+ghost use Rattle.std.specs.Prelude.{◌≡◌, ◌++◌, ◌≤◌, ◌<◌, ◌^◌, ◌+◌, IfOk, IfSome, Ok, length, option_map, slice_get, string_bytes};
 ghost use Rattle.std.specs.List.{position};
 ghost use Rattle.wf_value.specs.Gives.{ErrsOnlyByMemory, Gives};
-ghost use Rattle.table_model.specs.TableState.{is_above, is_named, runner_named};
-ghost use Rattle.table_views.specs.RunnerPages.{IsRunnerPage, heard_at, held_lease, index_after, lease_json, lease_of_last, next_name, one_runner, rows_of, runner_row, runner_rows};
+ghost use Rattle.table_model.specs.TableState.{is_above};
+ghost use Rattle.table_views.specs.RunnerPages.{IsRunnerPage, begins_with, claimed_labels, heard_at, heard_members, held_lease, index_after, labels_or_null, lease_json, lease_of_last, next_name, runner_row, runner_rows};
 
+use crate::change_lines::labels_text;
 use crate::members::{number_or_null, push_member, push_number, push_text, text_or_null};
 use crate::pages::{Source, page_of, page_text};
 use crate::texts::quoted;
-use run_plan::{ClaimReply, LastCommand, Lease};
+use run_plan::{ClaimReply, Labels, LastCommand, Lease};
 use run_table::{Runner, Table};
 use std::alloc::Global;
 use wf_value::{Chars, Refusal};
@@ -48,26 +49,78 @@ fn lease_json(alloc: Global, lease: Option<&Lease>) -> Result<String, Refusal>
     Ok(text)
 }
 
+/// The labels of a claim, if that was the last command.
+fn claimed_labels(last: &LastCommand) -> Option<&Labels>
+    ensures { option_map (λ labels. labels.now) result ≡ claimed_labels last.now }
+{
+    match last {
+        LastCommand::Claim(claim, _) => Some(&claim.labels),
+        LastCommand::Done(_) => None,
+    }
+}
+
+/// The labels of a runner's claim, if that was its last command.
+fn labels_of(runner: &Runner) -> Option<&Labels>
+    ensures { option_map (λ labels. labels.now) result ≡ claimed_labels runner.now.last }
+{
+    claimed_labels(&runner.last)
+}
+
+fn labels_or_null(alloc: Global, labels: Option<&Labels>) -> Result<String, Refusal>
+    ensures { Gives string_bytes result (Ok (labels_or_null (option_map (λ labels. labels.now) labels.entry))) }
+{
+    match labels {
+        Some(labels) => labels_text(alloc, labels.as_slice()),
+        None => Ok(String::from_str(alloc, "null")?),
+    }
+}
+
+/// Appends the seconds since a runner was last heard, if that is known, and its labels.
+fn push_heard(
+    alloc: Global,
+    text: &mut String,
+    heard: Option<u64>,
+    runner: &Runner,
+) -> Result<(), Refusal>
+    ensures { Gives (λ _. string_bytes text.new) result (Ok (string_bytes text.old ++ heard_members heard runner.now)) }
+{
+    let seconds = number_or_null(alloc, heard)?;
+    let labels = labels_or_null(alloc, labels_of(runner))?;
+    push_member(text, "heard_seconds_ago", seconds.as_str())?;
+    push_member(text, "labels", labels.as_str())?;
+    Ok(())
+}
+
 fn runner_row(alloc: Global, heard: Option<u64>, runner: &Runner) -> Result<String, Refusal>
     ensures { Gives string_bytes result (Ok (runner_row heard runner.now)) }
 {
     let name = quoted(alloc, runner.name.as_str())?;
     let lease = lease_json(alloc, held_lease(runner))?;
-    let seconds = number_or_null(alloc, heard)?;
     let mut text = format!(in alloc; "{{\"runner\":{name}")?;
     push_number(&mut text, "number", u64::from(runner.number.get()))?;
     push_member(&mut text, "lease", lease.as_str())?;
-    push_member(&mut text, "heard_seconds_ago", seconds.as_str())?;
+    push_heard(alloc, &mut text, heard, runner)?;
     text.push_str("}")?;
     Ok(text)
 }
 
-/// The runners of a table, with the seconds of those from an index on.
+/// The runners of a table whose names begin with a text, with the seconds of those from an index on.
 #[derive(Drop)]
 struct Known<'a> {
     runners: &'a [Runner],
+    name: &'a Option<Chars>,
     heard: &'a [Option<u64>],
     from: usize,
+}
+
+/// Whether a name begins with the wanted text, if one is wanted.
+fn begins_with(wanted: &Option<Chars>, name: &str) -> bool
+    ensures { result ≡ begins_with wanted.now name.now }
+{
+    match wanted {
+        Some(beginning) => name.as_bytes().starts_with(beginning.as_str().as_bytes()),
+        None => true,
+    }
 }
 
 fn runner_at(runners: &[Runner], index: usize) -> Option<&Runner>
@@ -89,9 +142,9 @@ fn heard_at(heard: &[Option<u64>], from: usize, index: usize) -> Option<u64>
 impl Source for Known<'_> {
     ghost size = { λ s. length s.runners.now };
 
-    ghost rows = { λ s index. runner_rows s.heard.now s.from s.runners.now index };
+    ghost rows = { λ s index. runner_rows s.name.now s.heard.now s.from s.runners.now index };
 
-    ghost weigh = { λ s index. length (runner_rows s.heard.now s.from s.runners.now index) };
+    ghost weigh = { λ s index. length (runner_rows s.name.now s.heard.now s.from s.runners.now index) };
 
     fn push_rows(
         &self,
@@ -102,6 +155,9 @@ impl Source for Known<'_> {
         let Some(runner) = runner_at(self.runners, index) else {
             return Ok(0);
         };
+        if !begins_with(self.name, runner.name.as_str()) {
+            return Ok(0);
+        }
         let heard = heard_at(self.heard, self.from, index);
         let row = runner_row(alloc, heard, runner)?;
         out.push(Chars::new(row))?;
@@ -147,10 +203,15 @@ pub fn index_after(table: &Table, name: &str) -> usize
     }
 }
 
-/// A page of the runners from an index on. `heard` has the seconds since each of them was last heard, if that is known.
+/// A page of the runners from an index on whose names begin with a text. `heard` has the seconds since each runner from there on was last heard,
+/// if that is known.
+/// Promise (Views of a service): With a name `/runners` shows the runners whose names begin with it; the page after a name begins with the first
+///   runner whose name comes after it
+/// By: `table_views::runner_page`, `page` (`IsRunnerPage`, `begins_with`); `table_views::index_after`, `after` (`index_after`)
 pub fn runner_page(
     alloc: Global,
     table: &Table,
+    name: &Option<Chars>,
     heard: &[Option<u64>],
     from: usize,
     limit: usize,
@@ -158,11 +219,12 @@ pub fn runner_page(
     requires from { from ≤ length table.now.runners }
     requires limit { limit < 2 ^ 32 }
     ensures err { ErrsOnlyByMemory result }
-    ensures page { IfOk result (λ text. IsRunnerPage heard.now from limit table.now (string_bytes text)) }
+    ensures page { IfOk result (λ text. IsRunnerPage name.now heard.now from limit table.now (string_bytes text)) }
 {
     let runners = table.runners();
     let known = Known {
         runners,
+        name,
         heard,
         from,
     };
@@ -172,50 +234,8 @@ pub fn runner_page(
         alloc,
         "runners",
         page.rows.as_slice(),
+        page.count,
         "after",
         next.as_str(),
     )
-}
-
-fn is_named(runner: &Runner, name: &str) -> bool
-    ensures { result ≡ is_named name.now runner.now }
-{
-    runner.name.as_str() == name
-}
-
-fn runner_named<'a>(runners: &'a [Runner], name: &str) -> Option<&'a Runner>
-    ensures { option_map (λ runner. runner.now) result ≡ runner_named runners.now name.now }
-{
-    runners.iter().find(|runner| is_named(runner, name))
-}
-
-/// The row of a runner, or none.
-fn rows_of(
-    alloc: Global,
-    heard: Option<u64>,
-    runner: Option<&Runner>,
-) -> Result<Vec<Chars>, Refusal>
-    ensures { Gives (λ rows. rows.items) result (Ok (rows_of heard (option_map (λ runner. runner.now) runner.entry))) }
-{
-    let mut rows = Vec::new(alloc);
-    if let Some(runner) = runner {
-        rows.push(Chars::new(runner_row(alloc, heard, runner)?))?;
-    }
-    Ok(rows)
-}
-
-/// A page of the runner with this name alone, or of none. `heard` is the seconds since it was last heard, if that is known.
-/// Promise (Views of a service): With a name `/runners` shows the runner of this name alone, or none; the page after a name begins with the
-///   first runner whose name comes after it
-/// By: `table_views::one_runner` (`one_runner`); `table_views::index_after`, `after` (`index_after`)
-pub fn one_runner(
-    alloc: Global,
-    table: &Table,
-    name: &str,
-    heard: Option<u64>,
-) -> Result<String, Refusal>
-    ensures { Gives string_bytes result (Ok (one_runner heard table.now.runners name.now)) }
-{
-    let rows = rows_of(alloc, heard, runner_named(table.runners(), name))?;
-    page_text(alloc, "runners", rows.as_slice(), "after", "null")
 }

@@ -1,6 +1,7 @@
 //! What an operator sees of a table: the lines of its runs, its runners and its queue, as text or as JSON, and pages of long lists as JSON.
 #![tactic(auto)]
 
+mod bodies;
 mod change_lines;
 mod claim;
 mod form;
@@ -8,6 +9,7 @@ mod group_filter;
 mod group_holders;
 mod groups;
 mod known_runners;
+mod lease_names;
 mod leg_counts;
 mod members;
 mod metric_lines;
@@ -27,13 +29,16 @@ mod runs;
 mod sites;
 mod table_metrics;
 mod texts;
+mod told_legs;
 mod waiting;
 
-pub use change_lines::{entry_line, run_change_line};
+pub use bodies::run_body;
+pub use change_lines::{attempt_line, entry_line, leg_change_line, run_change_line};
 pub use form::Form;
 pub use group_filter::GroupFilter;
 pub use group_holders::holder_page;
-pub use known_runners::{index_after, one_runner, runner_page};
+pub use known_runners::{index_after, runner_page};
+pub use lease_names::LeaseNames;
 pub use metric_lines::{one_more, push_head, push_metric, push_value};
 pub use newest_runs::runs_page;
 pub use one_run::run_view;
@@ -43,3 +48,4 @@ pub use run_filter::RunFilter;
 pub use runners::runners_text;
 pub use runs::run_line;
 pub use table_metrics::push_table_metrics;
+pub use told_legs::{LegNews, leg_news};

@@ -119,5 +119,12 @@ pub fn runs_page(
     let newest = Newest { table, filter, top };
     let page = page_of(alloc, &newest, 0, top, limit)?;
     let next = number_or_null(alloc, next_below(top, page.count))?;
-    page_text(alloc, "runs", page.rows.as_slice(), "before", next.as_str())
+    page_text(
+        alloc,
+        "runs",
+        page.rows.as_slice(),
+        page.count,
+        "before",
+        next.as_str(),
+    )
 }

@@ -1,11 +1,13 @@
 //! One run with its jobs and legs, and what each waits for.
 
-ghost use Rattle.std.specs.Prelude.{◌≡◌, ◌++◌, ◌+◌, ◌-◌, ◌<◌, ◌≤◌, ◌^◌, IfOk, MatchOption, None, Ok, Some, find, length, min, option_map, slice_get, string_bytes};
+ghost use Rattle.std.specs.Prelude.{◌≡◌, ◌++◌, ◌+◌, ◌-◌, ◌<◌, ◌≤◌, ◌^◌, IfOk, MatchOption, None, Ok, Some, find, length, min, option_and_then, option_map, slice_get, string_bytes};
 ghost use Rattle.wf_value.specs.Gives.{ErrsOnlyByMemory, Gives};
 ghost use Rattle.run_plan.specs.PlanOf.{plan_of};
 ghost use Rattle.table_model.specs.ViewText.{Seen, seen_of};
-ghost use Rattle.table_views.specs.RunViews.{IsRunView, holds_lease, job_row, job_rows, leg_row, leg_rows, legs_of_job, next_job, plan_members, run_view_text, runner_of, standing_members, truth, wish_members};
+ghost use Rattle.table_views.specs.LeaseNames.{name_of};
+ghost use Rattle.table_views.specs.RunViews.{IsRunView, holds_lease, job_row, job_rows, leg_row, leg_rows, leg_runner, legs_of_job, next_job, plan_members, run_view_text, runner_of, standing_members, truth, wish_members};
 
+use crate::lease_names::LeaseNames;
 use crate::members::{number_or_null, push_member, push_text, push_text_or_null};
 use crate::pages::{Source, page_of};
 use crate::queue::{labels_json, quoted_each};
@@ -51,7 +53,28 @@ fn runner_of<'t>(runners: &'t [Runner], leg: &Leg) -> Option<&'t str>
     Some(runner.name.as_str())
 }
 
-fn lease_number(leg: &Leg) -> Option<u64>
+/// The name of the runner to which the lease of a leg was given, if it is known.
+fn named_runner<'t>(names: &'t LeaseNames, leg: &Leg) -> Option<&'t str>
+    ensures { option_map (λ name. name.now) result ≡ option_and_then (name_of names.now) leg.now.lease }
+{
+    names.name(leg.lease?)
+}
+
+/// The name of the runner that is at work on a leg, else of the one to which its lease was given.
+pub(crate) fn leg_runner<'t>(
+    names: &'t LeaseNames,
+    runners: &'t [Runner],
+    leg: &Leg,
+) -> Option<&'t str>
+    ensures { option_map (λ name. name.now) result ≡ leg_runner names.now runners.now leg.now }
+{
+    match runner_of(runners, leg) {
+        Some(name) => Some(name),
+        None => named_runner(names, leg),
+    }
+}
+
+pub(crate) fn lease_number(leg: &Leg) -> Option<u64>
     ensures { result ≡ leg.now.lease }
 {
     match leg.lease {
@@ -86,10 +109,11 @@ fn push_standing(
     alloc: Global,
     text: &mut String,
     table: &Table,
+    names: &LeaseNames,
     site: LegSite,
     leg: &Leg,
 ) -> Result<(), Refusal>
-    ensures { Gives (λ _. string_bytes text.new) result (Ok (string_bytes text.old ++ standing_members table.now site leg.now)) }
+    ensures { Gives (λ _. string_bytes text.new) result (Ok (string_bytes text.old ++ standing_members names.now table.now site leg.now)) }
 {
     let combo = table.kept_runs().combo(alloc, site)?;
     let combo = text_of_combo(alloc, &combo)?;
@@ -97,17 +121,28 @@ fn push_standing(
     push_text(alloc, text, "state", leg_word(leg.phase))?;
     let lease = number_or_null(alloc, lease_number(leg))?;
     push_member(text, "lease", lease.as_str())?;
-    push_text_or_null(alloc, text, "runner", runner_of(table.runners(), leg))?;
+    push_text_or_null(
+        alloc,
+        text,
+        "runner",
+        leg_runner(names, table.runners(), leg),
+    )?;
     Ok(())
 }
 
-fn leg_row(alloc: Global, table: &Table, site: LegSite, leg: &Leg) -> Result<String, Refusal>
+fn leg_row(
+    alloc: Global,
+    table: &Table,
+    names: &LeaseNames,
+    site: LegSite,
+    leg: &Leg,
+) -> Result<String, Refusal>
     requires { site.leg < 2 ^ 63 }
-    ensures { Gives string_bytes result (Ok (leg_row table.now site leg.now)) }
+    ensures { Gives string_bytes result (Ok (leg_row names.now table.now site leg.now)) }
 {
     let number = site.leg;
     let mut text = format!(in alloc; "{{\"leg\":{number}")?;
-    push_standing(alloc, &mut text, table, site, leg)?;
+    push_standing(alloc, &mut text, table, names, site, leg)?;
     push_wishes(alloc, &mut text, table, site, leg)?;
     text.push_str("}")?;
     Ok(text)
@@ -118,15 +153,16 @@ fn leg_row(alloc: Global, table: &Table, site: LegSite, leg: &Leg) -> Result<Str
 fn leg_rows(
     alloc: Global,
     table: &Table,
+    names: &LeaseNames,
     r: usize,
     j: usize,
     legs: &[Leg],
 ) -> Result<Vec<Chars>, Refusal>
-    ensures { Gives (λ rows. rows.items) result (Ok (leg_rows table.now r j legs.now)) }
+    ensures { Gives (λ rows. rows.items) result (Ok (leg_rows names.now table.now r j legs.now)) }
 {
     let mut rows = Vec::new(alloc);
     for l in 0..legs.len() {
-        let row = leg_row(alloc, table, LegSite::new(r, j, l), &legs[l])?;
+        let row = leg_row(alloc, table, names, LegSite::new(r, j, l), &legs[l])?;
         rows.push(Chars::new(row))?;
     }
     Ok(rows)
@@ -157,15 +193,16 @@ fn push_plan(alloc: Global, text: &mut String, planned: &PlannedJob) -> Result<(
 fn job_row(
     alloc: Global,
     table: &Table,
+    names: &LeaseNames,
     r: usize,
     j: usize,
     planned: &PlannedJob,
     job: &Job,
 ) -> Result<String, Refusal>
-    ensures { Gives string_bytes result (Ok (job_row table.now r j planned.now job.now.state)) }
+    ensures { Gives string_bytes result (Ok (job_row names.now table.now r j planned.now job.now.state)) }
 {
     let id = quoted(alloc, planned.id.as_str())?;
-    let legs = leg_rows(alloc, table, r, j, job.legs())?;
+    let legs = leg_rows(alloc, table, names, r, j, job.legs())?;
     let legs = listed(alloc, legs.as_slice())?;
     let mut text = format!(in alloc; "{{\"id\":{id}")?;
     push_text(alloc, &mut text, "state", state_word(job.phase()))?;
@@ -186,13 +223,14 @@ fn planned_at(run: &Run, index: usize) -> Option<&PlannedJob>
 #[derive(Drop)]
 struct Jobs<'a> {
     table: &'a Table,
+    names: &'a LeaseNames,
     view: &'a RunView<'a>,
 }
 
 impl Source for Jobs<'_> {
     ghost size = { λ s. length s.view.now.run.jobs };
 
-    ghost rows = { λ s j. job_rows s.table.now (s.view.now.id - 1) s.view.now.run j };
+    ghost rows = { λ s j. job_rows s.names.now s.table.now (s.view.now.id - 1) s.view.now.run j };
 
     ghost weigh = { λ s j. legs_of_job s.view.now.run j };
 
@@ -211,7 +249,7 @@ impl Source for Jobs<'_> {
         let Some(planned) = planned_at(run, index) else {
             return Ok(count);
         };
-        let row = job_row(alloc, self.table, r, index, planned, job)?;
+        let row = job_row(alloc, self.table, self.names, r, index, planned, job)?;
         out.push(Chars::new(row))?;
         Ok(count)
     }
@@ -264,36 +302,39 @@ fn run_view_text(
 fn view_text(
     alloc: Global,
     table: &Table,
+    names: &LeaseNames,
     view: &RunView<'_>,
     from: usize,
 ) -> Result<String, Refusal>
     requires { from ≤ length view.now.run.jobs }
     ensures err { ErrsOnlyByMemory result }
-    ensures view { IfOk result (λ text. IsRunView from table.now view.now (string_bytes text)) }
+    ensures view { IfOk result (λ text. IsRunView from names.now table.now view.now (string_bytes text)) }
 {
     let jobs = view.run().job_count();
-    let page = page_of(alloc, &Jobs { table, view }, from, jobs - from, FULL)?;
+    let source = Jobs { table, names, view };
+    let page = page_of(alloc, &source, from, jobs - from, FULL)?;
     let next = next_job(jobs, from + page.count);
     run_view_text(alloc, table, view, page.rows.as_slice(), next)
 }
 
-/// The run with an id, with its jobs from an index on. `None` if there is no such run.
+/// The run with an id, with its jobs from an index on. `None` if there is no such run. `names` are the runners of leases, as far as they are known.
 /// Promise (Views of a service): A run is shown with its jobs from an index on, and each leg with what it asks for and waits for, to the byte;
 ///   none is shown exactly if there is none with this id
 /// By: `table_views::run_view`, `view` (`IsRunView`)
 pub fn run_view(
     alloc: Global,
     table: &Table,
+    names: &LeaseNames,
     id: Number,
     from: usize,
 ) -> Result<Option<String>, Refusal>
     ensures err { ErrsOnlyByMemory result }
     ensures view { IfOk result (λ found. MatchOption found (seen_of table.now.runs id ≡ None) (λ text. (seen : Seen)
-        × (seen_of table.now.runs id ≡ Some seen) × IsRunView (min from (length seen.run.jobs)) table.now seen (string_bytes text))) }
+        × (seen_of table.now.runs id ≡ Some seen) × IsRunView (min from (length seen.run.jobs)) names.now table.now seen (string_bytes text))) }
 {
     let Some(view) = table.look(id) else {
         return Ok(None);
     };
     let from = from.min(view.run().job_count());
-    Ok(Some(view_text(alloc, table, &view, from)?))
+    Ok(Some(view_text(alloc, table, names, &view, from)?))
 }

@@ -5,7 +5,7 @@ ghost use Rattle.wf_value.specs.Gives.{ErrsOnlyByMemory, Gives};
 ghost use Rattle.definitions.specs.Limits.{most_looked};
 ghost use Rattle.table_views.specs.Pages.{IsPage, page_text, rows_from};
 
-use crate::members::push_member;
+use crate::members::{push_member, push_number};
 use crate::texts::listed;
 use std::alloc::Global;
 use wf_value::{Chars, Refusal};
@@ -69,18 +69,20 @@ pub(crate) fn page_of<S: Source>(
     Ok(Page { rows, count: most })
 }
 
-/// The text of a page: its rows under their name, and where to go on.
+/// The text of a page: its rows under their name, at how many indices it looked, and where to go on.
 pub(crate) fn page_text(
     alloc: Global,
     name: &str,
     rows: &[Chars],
+    looked: usize,
     cursor: &str,
     value: &str,
 ) -> Result<String, Refusal>
-    ensures { Gives string_bytes result (Ok (page_text name.now rows.now cursor.now value.now)) }
+    ensures { Gives string_bytes result (Ok (page_text name.now rows.now looked cursor.now value.now)) }
 {
     let rows = listed(alloc, rows)?;
     let mut text = format!(in alloc; "{{\"{name}\":{rows}")?;
+    push_number(&mut text, "looked", looked as u64)?;
     push_member(&mut text, cursor, value)?;
     text.push_str("}\n")?;
     Ok(text)

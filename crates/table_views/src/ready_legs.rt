@@ -80,5 +80,12 @@ pub fn ready_page(
     let left = runs.len() - start;
     let page = page_of(alloc, &Ready { runs }, start, left, limit)?;
     let next = number_or_null(alloc, next_run(runs.len(), start + page.count))?;
-    page_text(alloc, "queue", page.rows.as_slice(), "from", next.as_str())
+    page_text(
+        alloc,
+        "queue",
+        page.rows.as_slice(),
+        page.count,
+        "from",
+        next.as_str(),
+    )
 }

@@ -3,7 +3,7 @@
 ghost use Rattle.std.specs.Prelude.{◌≡◌, ◌++◌, IfOk, Ok, option_map, string_bytes};
 ghost use Rattle.wf_value.specs.Gives.{Gives};
 ghost use Rattle.table_model.specs.inner.Cells.{states};
-ghost use Rattle.table_views.specs.RunRows.{conclusion_at, event_members, number_members, origin_members, own_group, ref_of, run_members, run_row, state_members};
+ghost use Rattle.table_views.specs.RunRows.{commit_title, conclusion_at, event_members, first_line, github_member, github_text, head_members, number_members, origin_members, own_group, pull_title, ref_of, run_members, run_row, sent_text, state_members, title_of};
 
 use crate::members::{push_number, push_text, push_text_or_null};
 use run_plan::{Number, Prepared};
@@ -16,17 +16,90 @@ use wf_value::{Chars, Refusal};
 
 // ---- what a row shows
 
+/// The text at a path of the contexts that the sender supplied, if there is one.
+fn sent_text<'e>(event: &'e Prepared, path: &[Chars]) -> Option<&'e str>
+    ensures { option_map (λ text. text.now) result ≡ sent_text path.now event.now }
+{
+    match event.contexts().value_of(path) {
+        Some(ScalarView::Text(text)) => Some(text),
+        _ => None,
+    }
+}
+
+/// A copy of a text that may be missing.
+fn copied(alloc: Global, text: Option<&str>) -> Result<Option<Chars>, Refusal>
+    ensures { Gives (λ copy. copy) result (Ok (option_map (λ t. t.now) text.entry)) }
+{
+    match text {
+        Some(text) => Ok(Some(Chars::from_str(alloc, text)?)),
+        None => Ok(None),
+    }
+}
+
+/// A member of `github`, if it is a text.
+fn github_text(alloc: Global, event: &Prepared, name: &str) -> Result<Option<Chars>, Refusal>
+    ensures { Gives (λ text. text) result (Ok (github_text name.now event.now)) }
+{
+    let path = [
+        Chars::from_str(alloc, "github")?,
+        Chars::from_str(alloc, name)?,
+    ];
+    copied(alloc, sent_text(event, path.as_slice()))
+}
+
 /// `github.ref` of an event, if it is a text.
 pub(crate) fn ref_of(alloc: Global, event: &Prepared) -> Result<Option<Chars>, Refusal>
     ensures { Gives (λ text. text) result (Ok (ref_of event.now)) }
 {
+    github_text(alloc, event, "ref")
+}
+
+/// The text before the first line feed, or all.
+fn first_line(text: &str) -> &str
+    ensures { result.now ≡ first_line text.now }
+{
+    match text.split_once('\n') {
+        Some((line, _)) => line,
+        None => text,
+    }
+}
+
+/// The title of the pull request, where the sender put it there.
+fn pull_title(alloc: Global, event: &Prepared) -> Result<Option<Chars>, Refusal>
+    ensures { Gives (λ text. text) result (Ok (pull_title event.now)) }
+{
     let path = [
         Chars::from_str(alloc, "github")?,
-        Chars::from_str(alloc, "ref")?,
+        Chars::from_str(alloc, "event")?,
+        Chars::from_str(alloc, "pull_request")?,
+        Chars::from_str(alloc, "title")?,
     ];
-    match event.contexts().value_of(path.as_slice()) {
-        Some(ScalarView::Text(text)) => Ok(Some(Chars::from_str(alloc, text)?)),
-        _ => Ok(None),
+    copied(alloc, sent_text(event, path.as_slice()))
+}
+
+/// The first line of the head commit's message, where the sender put it there.
+fn commit_title(alloc: Global, event: &Prepared) -> Result<Option<Chars>, Refusal>
+    ensures { Gives (λ text. text) result (Ok (commit_title event.now)) }
+{
+    let path = [
+        Chars::from_str(alloc, "github")?,
+        Chars::from_str(alloc, "event")?,
+        Chars::from_str(alloc, "head_commit")?,
+        Chars::from_str(alloc, "message")?,
+    ];
+    match sent_text(event, path.as_slice()) {
+        Some(message) => Ok(Some(Chars::from_str(alloc, first_line(message))?)),
+        None => Ok(None),
+    }
+}
+
+/// The title of the pull request, or else of the head commit.
+fn title_of(alloc: Global, event: &Prepared) -> Result<Option<Chars>, Refusal>
+    ensures { Gives (λ text. text) result (Ok (title_of event.now)) }
+{
+    match pull_title(alloc, event)? {
+        Some(title) => Ok(Some(title)),
+        None => commit_title(alloc, event),
     }
 }
 
@@ -92,6 +165,33 @@ fn push_event(alloc: Global, text: &mut String, event: &Prepared) -> Result<(), 
     Ok(())
 }
 
+/// Appends a member of `github` under its name.
+fn push_github(
+    alloc: Global,
+    text: &mut String,
+    event: &Prepared,
+    name: &str,
+) -> Result<(), Refusal>
+    ensures { Gives (λ _. string_bytes text.new) result (Ok (string_bytes text.old ++ github_member name.now event.now)) }
+{
+    let value = github_text(alloc, event, name)?;
+    push_text_or_null(alloc, text, name, as_text(&value))?;
+    Ok(())
+}
+
+/// Appends what the run is of, and who began it.
+fn push_head(alloc: Global, text: &mut String, event: &Prepared) -> Result<(), Refusal>
+    ensures { Gives (λ _. string_bytes text.new) result (Ok (string_bytes text.old ++ head_members event.now)) }
+{
+    let title = title_of(alloc, event)?;
+    push_github(alloc, text, event, "sha")?;
+    push_github(alloc, text, event, "ref_name")?;
+    push_github(alloc, text, event, "head_ref")?;
+    push_github(alloc, text, event, "actor")?;
+    push_text_or_null(alloc, text, "title", as_text(&title))?;
+    Ok(())
+}
+
 pub(crate) fn push_state(alloc: Global, text: &mut String, run: &Run) -> Result<(), Refusal>
     ensures { Gives (λ _. string_bytes text.new) result (Ok (string_bytes text.old ++ state_members run.now)) }
 {
@@ -110,6 +210,7 @@ pub(crate) fn run_members(alloc: Global, runs: &Runs, view: &RunView<'_>) -> Res
     let mut text = number_members(alloc, view)?;
     push_origin(alloc, &mut text, view.run().prepared())?;
     push_event(alloc, &mut text, view.run().prepared())?;
+    push_head(alloc, &mut text, view.run().prepared())?;
     push_state(alloc, &mut text, view.run())?;
     push_text_or_null(alloc, &mut text, "group", as_text(&group))?;
     Ok(text)

@@ -195,9 +195,9 @@ impl<'a> Views<'a> {
 
     // ---- what they are shown
 
-    /// Takes up what was made durable since the last time, and queues those that wait for it.
-    pub fn take_up<D: Disk>(&mut self, alloc: Global, store: &Store<D>, now: Instant) {
-        if !self.kept.take_up(alloc, store, now) {
+    /// Takes up what was made durable since the last time, at a time in milliseconds since 1970, and queues those that wait for it.
+    pub fn take_up<D: Disk>(&mut self, alloc: Global, store: &Store<D>, at: u64, now: Instant) {
+        if !self.kept.take_up(alloc, store, at, now) {
             return;
         }
         let mut waiting = Vec::new(alloc);

@@ -1,3 +1,4 @@
+pub mod Escapes
 pub mod Heads
 pub mod Parts
 pub mod Sending

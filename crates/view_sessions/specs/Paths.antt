@@ -1,5 +1,5 @@
 -- What the path of a target names. It has to match exactly. The paths are defined by this project.
-use Rattle.std.specs.Prelude.{ℕ, List, drop, take, codes, Bool, true, false, Option, Some, None, option_map, if◌then◌else◌}
+use Rattle.std.specs.Prelude.{ℕ, ◌-◌, List, drop, length, take, codes, Bool, true, false, Option, Some, None, option_map, if◌then◌else◌}
 use Rattle.std.specs.Option.{option_map_or}
 use Rattle.std.specs.Str.{bytes_eq}
 use Rattle.definitions.specs.SmallText.{found_if, number_of}
@@ -7,11 +7,21 @@ use Rattle.view_sessions.specs.declared.board_file.BoardFile.TheVariants.{Page, 
 use Rattle.view_sessions.specs.declared.parameter.Parameter.{Parameter}
 use Rattle.view_sessions.specs.declared.parameter.Parameter.TheVariants as parameter
 use Rattle.view_sessions.specs.declared.path.Path.{Path}
-use Rattle.view_sessions.specs.declared.path.Path.TheVariants.{Runs, Run, Queue, Runners, Groups, Health, Metrics, Changes, Backup, Board}
+use Rattle.view_sessions.specs.declared.path.Path.TheVariants.{Runs, Run, Body, Queue, Runners, Groups, Health, Metrics, Changes, Backup, Board}
 
 -- the bytes after `/runs/`, if they begin with that
 abbrev pub after_runs : List ℕ → Option (List ℕ)
 after_runs path = found_if (bytes_eq (take 6 path) (codes "/runs/")) (drop 6 path)
+
+-- the bytes before `/body`, if they end with that
+abbrev pub before_body : List ℕ → Option (List ℕ)
+before_body rest =
+    let offset = length rest - 5 in
+    found_if (bytes_eq (drop offset rest) (codes "/body")) (take offset rest)
+
+-- after `/runs/`: RUN, or RUN and `/body`
+abbrev pub run_path : List ℕ → Option Path
+run_path rest = option_map_or (λ run. option_map Body (number_of run)) (before_body rest) (option_map Run (number_of rest))
 
 -- the files of the board
 abbrev pub board_path : List ℕ → Option Path
@@ -34,7 +44,7 @@ plain_path path =
     else board_path path
 
 abbrev pub path_of : List ℕ → Option Path
-path_of path = option_map_or (λ run. option_map Run (number_of run)) (after_runs path) (plain_path path)
+path_of path = option_map_or run_path (after_runs path) (plain_path path)
 
 -- ---- the parameters of a path
 
@@ -76,6 +86,7 @@ is_of_changes _ = false
 abbrev pub is_of : Path → Parameter → Bool
 is_of Runs p = is_of_runs p
 is_of (Run run) p = is_of_run p
+is_of (Body run) p = false
 is_of Queue p = is_of_queue p
 is_of Runners p = is_of_runners p
 is_of Groups p = is_of_groups p

@@ -1,11 +1,11 @@
 -- The parameters of a target. The first that has a fault is answered.
-use Rattle.std.specs.Prelude.{ℕ, List, [], ◌∷◌, Bool, true, ◌||◌, not, is_some, Option, Some, None, option_and_then, ◌==◌, unwrap_or, Result, Ok, Err, if◌then◌else◌}
+use Rattle.std.specs.Prelude.{ℕ, List, [], ◌∷◌, Bool, true, ◌||◌, not, is_some, Option, Some, None, option_map, option_and_then, ◌==◌, unwrap_or, Result, Ok, Err, if◌then◌else◌}
 use Rattle.std.specs.List.{slice_split}
 use Rattle.std.specs.Option.{option_map_or}
 use Rattle.definitions.specs.SmallText.{number_of}
 use Rattle.view_sessions.specs.Cursors.{cursor_of}
 use Rattle.view_sessions.specs.Paths.{is_of, parameter_named}
-use Rattle.view_sessions.specs.Values.{after_byte, before_byte, decoded, is_conclusion, is_status, limit_of, small_number}
+use Rattle.view_sessions.specs.Values.{after_byte, before_byte, decoded, folded_text, is_conclusion, is_status, limit_of, small_number}
 use Rattle.view_sessions.specs.declared.cursor.Cursor.{Cursor}
 use Rattle.view_sessions.specs.declared.fault.ViewFault.{ViewFault}
 use Rattle.view_sessions.specs.declared.fault.ViewFault.TheVariants.{BadParameter, UnknownParameter}
@@ -124,6 +124,10 @@ abbrev pub query_of : Path → List ℕ → Result Query ViewFault
 query_of at text = all_added at (Ok no_query) (parts_of text)
 
 -- ---- what is read of them
+
+-- the name of a group is compared without its case, as groups are
+abbrev pub with_folded_group : Query → Query
+with_folded_group q = record q { group = option_map folded_text q.group }
 
 abbrev pub number_in : Query → Parameter → Option ℕ
 number_in q p = option_and_then number_of (given q p)

@@ -2,7 +2,7 @@
 use Rattle.std.specs.Prelude.{ℕ, List, [], Bool, ◌||◌, codes, Option, Some, None, unwrap_or, Result, Ok, Err, if◌then◌else◌}
 use Rattle.std.specs.Str.{bytes_eq}
 use Rattle.view_sessions.specs.Paths.{path_of}
-use Rattle.view_sessions.specs.Queries.{cursor_in, first_run, index_in, limit_in, number_in, query_of, wait_in}
+use Rattle.view_sessions.specs.Queries.{cursor_in, first_run, index_in, limit_in, number_in, query_of, wait_in, with_folded_group}
 use Rattle.view_sessions.specs.Values.{after_byte, before_byte}
 use Rattle.view_sessions.specs.declared.fault.ViewFault.{ViewFault}
 use Rattle.view_sessions.specs.declared.fault.ViewFault.TheVariants.{MethodNotAllowed, UnknownPath}
@@ -32,6 +32,7 @@ groups_query q = record { filter = record { repository = q.repository; group = q
 abbrev pub view_at : Path → Query → View
 view_at path.Runs q = view.Runs (runs_query q)
 view_at (path.Run run) q = view.Run (record { run = run; from = index_in q })
+view_at (path.Body run) q = view.Body run
 view_at path.Queue q = view.Queue (record { from = first_run q; limit = limit_in q })
 view_at path.Runners q = view.Runners (runners_query q)
 view_at path.Groups q = view.Groups (groups_query q)
@@ -42,7 +43,7 @@ view_at path.Backup q = view.Backup
 view_at (path.Board file) q = view.Board file
 
 abbrev pub view_if : Path → Result Query ViewFault → Result View ViewFault
-view_if at (Ok q) = Ok (view_at at q)
+view_if at (Ok q) = Ok (view_at at (with_folded_group q))
 view_if at (Err fault) = Err fault
 
 abbrev pub view_of : Path → List ℕ → Result View ViewFault

@@ -12,6 +12,7 @@ mod query;
 mod request;
 mod session;
 mod target;
+mod value_text;
 mod view;
 
 pub use answer::{Answer, Content};

@@ -69,7 +69,8 @@ impl Parameter {
             }
             Path::Groups => self.is_of_groups(),
             Path::Changes => matches!(self, Parameter::After | Parameter::Wait),
-            Path::Health | Path::Metrics | Path::Backup | Path::Board(_) => false,
+            Path::Body(_) | Path::Health | Path::Metrics => false,
+            Path::Backup | Path::Board(_) => false,
         }
     }
 

@@ -1,5 +1,5 @@
 ghost use Rattle.std.specs.Prelude.{◌≡◌, option_map};
-ghost use Rattle.view_sessions.specs.Paths.{after_runs, board_path, path_of, plain_path};
+ghost use Rattle.view_sessions.specs.Paths.{after_runs, before_body, board_path, path_of, plain_path, run_path};
 
 use crate::board_file::BoardFile;
 use run_plan::Number;
@@ -11,6 +11,8 @@ pub(crate) enum Path {
     Runs,
     /// `/runs/RUN`
     Run(Number),
+    /// `/runs/RUN/body`
+    Body(Number),
     /// `/queue`
     Queue,
     /// `/runners`
@@ -34,6 +36,23 @@ fn after_runs(path: &[u8]) -> Option<&[u8]>
     ensures { option_map (λ rest. rest.now) result ≡ after_runs path.now }
 {
     path.strip_prefix(b"/runs/")
+}
+
+/// The bytes before `/body`, if they end with that.
+fn before_body(rest: &[u8]) -> Option<&[u8]>
+    ensures { option_map (λ run. run.now) result ≡ before_body rest.now }
+{
+    rest.strip_suffix(b"/body")
+}
+
+/// The path of bytes after `/runs/`.
+fn run_path(rest: &[u8]) -> Option<Path>
+    ensures { result ≡ run_path rest.now }
+{
+    match before_body(rest) {
+        Some(run) => Number::of(run).map(Path::Body),
+        None => Number::of(rest).map(Path::Run),
+    }
 }
 
 /// The path of bytes that name a file of the board.
@@ -81,7 +100,7 @@ impl Path {
         ensures { result ≡ path_of path.now }
     {
         match after_runs(path) {
-            Some(run) => Number::of(run).map(Path::Run),
+            Some(rest) => run_path(rest),
             None => plain_path(path),
         }
     }

@@ -4,14 +4,14 @@ ghost use Rattle.std.specs.Prelude.{◌≡◌, ◌==◌, ◌≤◌, Ok, is_some,
 ghost use Rattle.std.specs.List.{position};
 ghost use Rattle.wf_value.specs.Gives.{Gives};
 ghost use Rattle.definitions.specs.SmallText.{number_of};
-ghost use Rattle.view_sessions.specs.Queries.{cursor_in, first_run, given, index_in, is_after, is_first, is_of_form, limit_in, no_query, number_in, part_added, query_of, text_added, value_added, wait_in, with_value};
-ghost use Rattle.view_sessions.specs.Values.{after_byte, before_byte, decoded, is_conclusion, is_status, limit_of, small_number};
+ghost use Rattle.view_sessions.specs.Queries.{cursor_in, first_run, given, index_in, is_after, is_first, is_of_form, limit_in, no_query, number_in, part_added, query_of, text_added, value_added, wait_in, with_folded_group, with_value};
+ghost use Rattle.view_sessions.specs.Values.{after_byte, before_byte, folded_text, is_conclusion, is_status, limit_of, small_number};
 
 use crate::cursor::Cursor;
 use crate::fault::ViewFault;
 use crate::parameter::Parameter;
 use crate::path::Path;
-use percent_encoding::percent_decode;
+use crate::value_text::{decoded, folded_text};
 use run_plan::Number;
 use std::alloc::Global;
 use wf_value::{Chars, Refusal};
@@ -92,15 +92,13 @@ pub(crate) fn after_byte(bytes: &[u8], byte: u8) -> Option<&[u8]>
     }
 }
 
-/// The text that a value stands for, or `None` if it is not UTF-8.
-fn decoded(alloc: Global, value: &[u8]) -> Result<Option<Chars>, Refusal>
-    ensures { Gives (λ text. text) result (Ok (decoded value.now)) }
+/// The name of a group without its case, if one is given.
+fn folded_group(alloc: Global, name: &Option<Chars>) -> Result<Option<Chars>, Refusal>
+    ensures { Gives (λ text. text) result (Ok (option_map folded_text name.now)) }
 {
-    let mut bytes = Vec::new(alloc);
-    percent_decode(value).append_to(&mut bytes)?;
-    match String::from_utf8(bytes) {
-        Ok(text) => Ok(Some(Chars::new(text))),
-        Err(_) => Ok(None),
+    match name {
+        Some(name) => Ok(Some(folded_text(alloc, name.as_str())?)),
+        None => Ok(None),
     }
 }
 
@@ -278,6 +276,15 @@ impl Query {
             return Ok(Err(ViewFault::UnknownParameter));
         }
         self.with_value(alloc, path, parameter, after_byte(part, b'='))
+    }
+
+    /// The same with the name of the group without its case.
+    pub(crate) fn with_folded_group(mut self, alloc: Global) -> Result<Query, Refusal>
+        ensures { Gives (λ q. q) result (Ok (with_folded_group self)) }
+    {
+        let group = folded_group(alloc, &self.group)?;
+        self.group = group;
+        Ok(self)
     }
 
     /// The run with whose id a page begins: the first, where it is left out.

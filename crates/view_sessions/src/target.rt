@@ -80,6 +80,7 @@ fn view_at(path: Path, query: Query) -> View
             run,
             from: query.index(),
         }),
+        Path::Body(run) => View::Body(run),
         Path::Queue => View::Queue(QueueQuery {
             from: query.first_run(),
             limit: query.limit(),
@@ -102,7 +103,7 @@ fn view_of(alloc: Global, path: Path, parameters: &[u8]) -> Result<Result<View, 
     ensures { Gives (λ r. r) result (Ok (view_of path parameters.now)) }
 {
     match query_of(alloc, &path, parameters)? {
-        Ok(query) => Ok(Ok(view_at(path, query))),
+        Ok(query) => Ok(Ok(view_at(path, query.with_folded_group(alloc)?))),
         Err(fault) => Ok(Err(fault)),
     }
 }

@@ -26,7 +26,7 @@ pub struct QueueQuery {
     pub limit: usize,
 }
 
-/// A page of runners, or one runner.
+/// A page of the runners whose names begin with a text.
 #[derive(Drop)]
 pub struct RunnersQuery {
     pub name: Option<Chars>,
@@ -54,6 +54,7 @@ pub struct ChangesQuery {
 pub enum View {
     Runs(RunsQuery),
     Run(RunQuery),
+    Body(Number),
     Queue(QueueQuery),
     Runners(RunnersQuery),
     Groups(GroupsQuery),

@@ -181,7 +181,7 @@ class Changes:
             return
         for earlier in range(row.attempt, line.attempt):
             self.past(self._batch, line.run, earlier)
-        after = dataclasses.replace(row, attempt=line.attempt, status=line.status, conclusion=line.conclusion)
+        after = line.row or dataclasses.replace(row, attempt=line.attempt, status=line.status, conclusion=line.conclusion)
         self.mirror.put_row(after, known.facts if known.digest else None, known.digest, known.created_at, known.created_source)
         self._touch(line.run, at, is_end=line.status == 'completed')
 

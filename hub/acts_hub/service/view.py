@@ -102,7 +102,8 @@ class ViewPort:
     async def runners(self, name: str | None = None) -> list[Runner]:
         """All runners that have claimed, or the one of this name."""
         path = '/runners' if name is None else f'/runners?name={quote(name, safe="")}'
-        return list(map(Runner.of, await self._pages(path, 'runners', 'after')))
+        found = map(Runner.of, await self._pages(path, 'runners', 'after'))     # with a name those whose names begin with it
+        return [one for one in found if name in (None, one.name)]
 
     async def queue(self) -> list[Ready]:
         """The legs that wait for a runner."""

@@ -10,17 +10,18 @@ use Rattle.table_views.proofs.known_runners.runner_page.Goals as goal
 
 pub returns-clause-page : goal.returns-clause-page
 returns-clause-page c =
+    let name = c.args.name.now in
     let heard = c.args.heard.now in
     let from = c.args.from in
     let count = c.in_ok-page.page.count in
     let same = c.runners-runners.ensures.runners in
-    let rows = c.as_slice.ensures.value ∙ c.in_ok-page.ensures.rows ∙ ap (λ (rs : List RunnerState). rows_from (runner_rows heard from rs) from count) same in
+    let rows = c.as_slice.ensures.value ∙ c.in_ok-page.ensures.rows ∙ ap (λ (rs : List RunnerState). rows_from (runner_rows name heard from rs) from count) same in
     let next = c.as_str.ensures.value ∙ sym (gives_ok string_bytes c.in_ok-next.next _ c.in_ok-next.ensures)
     ∙ ap text_or_null (c.next_name.ensures ∙ ap (λ (rs : List RunnerState). next_name rs from count) same) in
-    if_gives string_bytes (IsRunnerPage heard from c.args.limit c.args.table.now) c.page_text.result _ c.page_text.ensures
+    if_gives string_bytes (IsRunnerPage name heard from c.args.limit c.args.table.now) c.page_text.result _ c.page_text.ensures
     (record {
       count = count;
-      page = subst (λ (rs : List RunnerState). IsPage (λ index. length (runner_rows heard from rs index)) from (length rs - from) c.args.limit most_looked count)
+      page = subst (λ (rs : List RunnerState). IsPage (λ index. length (runner_rows name heard from rs index)) from (length rs - from) c.args.limit most_looked count)
           same c.in_ok-page.ensures.page;
-      is = ap₂ (λ (rs : List (List ℕ)) (v : List ℕ). page_text (codes "runners") rs (codes "after") v) rows next;
+      is = ap₂ (λ (rs : List (List ℕ)) (v : List ℕ). page_text (codes "runners") rs count (codes "after") v) rows next;
     })

@@ -20,5 +20,5 @@ returns-clause-page c =
     (record {
       count = count;
       page = subst (λ (t : ℕ). IsPage (λ index. length (newest_rows f runs t index)) 0 t c.args.limit most_looked count) top c.in_ok-page.ensures.page;
-      is = ap₂ (λ (rs : List (List ℕ)) (v : List ℕ). page_text (codes "runs") rs (codes "before") v) rows next;
+      is = ap₂ (λ (rs : List (List ℕ)) (v : List ℕ). page_text (codes "runs") rs count (codes "before") v) rows next;
     })

@@ -6,5 +6,5 @@ use Rattle.table_views.proofs.one_run.view_text.Goals as goal
 
 pub returns-clause-view : goal.returns-clause-view
 returns-clause-view c =
-    if_gives string_bytes (IsRunView c.args.from c.args.table.now c.args.view.now) c.run_view_text.result _ c.run_view_text.ensures
+    if_gives string_bytes (IsRunView c.args.from c.args.names.now c.args.table.now c.args.view.now) c.run_view_text.result _ c.run_view_text.ensures
     (record { count = c.in_ok-page.page.count; page = search rules; is = search rules })

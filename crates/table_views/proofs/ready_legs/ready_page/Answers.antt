@@ -25,5 +25,5 @@ returns-clause-page c =
           (subst (λ (rs : List RunState). IsPage (λ r. length (ready_rows rs r)) c.start_at-start.result (length rs - c.start_at-start.result) c.args.limit most_looked count) same
           (subst (λ (n : ℕ). IsPage (λ r. length (ready_rows c.kept_runs-runs.result.now r)) c.start_at-start.result (n - c.start_at-start.result) c.args.limit most_looked count)
           c.len.ensures.len c.in_ok-page.ensures.page));
-      is = ap₂ (λ (rs : List (List ℕ)) (v : List ℕ). page_text (codes "queue") rs (codes "from") v) rows next;
+      is = ap₂ (λ (rs : List (List ℕ)) (v : List ℕ). page_text (codes "queue") rs count (codes "from") v) rows next;
     })

@@ -15,13 +15,13 @@ pub invariant_of-self : goal.invariant_of-self
 invariant_of-self c =
     rw (c.in_err-keep.ensures.err, c.enter.ensures)
     (log_loses c.self.inside.kept c.self.inside.entries (c.self.inside.entries + 1) c.self.inside.told
-    (Entered c.args.command.now c.args.reply.now) c.self.invariant refl)
+    (Entered c.args.at c.args.command.now c.args.reply.now) c.self.invariant refl)
 
 pub invariant_of-self-2 : goal.invariant_of-self-2
 invariant_of-self-2 c =
-    let kept : c.keep.new.self ≡ with_text c.self.inside.kept (line_of c.self.inside.entries (Entered c.args.command.now c.args.reply.now)) =
+    let kept : c.keep.new.self ≡ with_text c.self.inside.kept (line_of c.self.inside.entries (Entered c.args.at c.args.command.now c.args.reply.now)) =
     of_given string_bytes (λ text. c.keep.new.self ≡ with_text c.self.inside.kept text) c.entry_line-line.result
-    (line_of c.self.inside.entries (Entered c.args.command.now c.args.reply.now)) c.entry_line-line.ensures c.in_ok-keep.ensures.ok in
+    (line_of c.self.inside.entries (Entered c.args.at c.args.command.now c.args.reply.now)) c.entry_line-line.ensures c.in_ok-keep.ensures.ok in
     rw (kept, c.enter.ensures)
     (log_keeps c.self.inside.kept c.self.inside.entries (c.self.inside.entries + 1) c.self.inside.told
-    (Entered c.args.command.now c.args.reply.now) c.self.invariant refl)
+    (Entered c.args.at c.args.command.now c.args.reply.now) c.self.invariant refl)

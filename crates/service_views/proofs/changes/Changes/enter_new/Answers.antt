@@ -1,7 +1,9 @@
-use Rattle.std.proofs.Common.{◌≡◌, ◌∙◌, ◌≤◌, sym, ap, arith}
+use Rattle.std.proofs.Common.{◌≡◌, ◌∙◌, ◌≤◌, List, sym, ap, arith}
 use Rattle.std.specs.Prelude.{None, Some, length, slice_get}
 use Rattle.std.specs.Option.{option_copied}
-use Rattle.service_views.proofs.FollowingLemmas.{found_at, gains_next, none_is_past}
+use Rattle.covered_log.specs.Lines.{Change, with_more}
+use Rattle.service_views.specs.Following.{entered}
+use Rattle.service_views.proofs.FollowingLemmas.{found_at, none_is_past, notes_next_name, told_next}
 use Rattle.service_views.proofs.changes.Changes.enter_new.Goals.{in-Some, in_default}
 use Rattle.service_views.proofs.changes.Changes.enter_new.Goals as goal
 
@@ -14,8 +16,13 @@ loop-index-preserved g c =
           ∙ ap option_copied w.in-Some.is in
           rw w.self-is
           (record {
-            gains = gains_next c.args.store.now.history c.args.self.now.taken c.loop-index.index w.in-Some.entry.now c.args.self.now.log
-                c.loop-index.self.log w.enter.new.self.log c.loop-index.auto.index found c.loop-index.invariant.gains w.enter.ensures.gains;
+            told = w.enter.ensures.told
+                ∙ ap (λ (cs : List Change). with_more cs (entered c.args.at w.in-Some.entry.now)) c.loop-index.invariant.told
+                ∙ told_next c.args.self.now.log.changes c.args.at c.args.store.now.history c.args.self.now.taken c.loop-index.index
+                w.in-Some.entry.now c.loop-index.auto.index found;
+            names = notes_next_name c.args.store.now.history c.args.self.now.taken c.loop-index.index w.in-Some.entry.now c.args.self.now.names
+                c.loop-index.self.names w.enter.new.self.names c.loop-index.auto.index found c.loop-index.invariant.names w.enter.ensures.names;
+            standings = w.enter.ensures.standings ∙ c.loop-index.invariant.standings;
             taken = w.enter.ensures.taken ∙ c.loop-index.invariant.taken;
             stays = λ less. omega (arith, less, c.loop-index.auto.index, c.loop-index-test.true, c.covered-index-end.ensures.value);
           })

@@ -1,11 +1,14 @@
-use Rattle.std.proofs.Common.{◌≡◌, ◌<◌, drop, take}
-use Rattle.service_views.specs.Following.{Gains}
+use Rattle.std.proofs.Common.{◌≡◌, ◌<◌, drop, map, take}
+use Rattle.covered_log.specs.Lines.{with_all}
+use Rattle.service_views.specs.Following.{NotesOf, entered}
 use Rattle.service_views.proofs.changes.Changes.enter_new.Given as goal
 
 -- the entries so far
 abbrev pub invariant-loop-index : goal.invariant-loop-index
 invariant-loop-index g l = record {
-  gains : Gains (drop l.fn.self.taken (take l.index l.store.history)) l.fn.self.log l.self.log;
+  told : l.self.log.changes ≡ with_all l.fn.self.log.changes (map (entered l.at) (drop l.fn.self.taken (take l.index l.store.history)));
+  names : NotesOf (drop l.fn.self.taken (take l.index l.store.history)) l.fn.self.names l.self.names;
+  standings : l.self.standings ≡ l.fn.self.standings;
   taken : l.self.taken ≡ l.fn.self.taken;
   -- where there is nothing new
   stays : l.store.covered < l.fn.self.taken → l.index ≡ l.fn.self.taken;

@@ -5,7 +5,7 @@ use Rattle.std.proofs.lemmas.Str.{IsUtf8-string_bytes}
 use Rattle.percent_encoding.specs.Iter.{decoded_bytes}
 use Rattle.percent_encoding.specs.Percent.{percent_decode}
 use Rattle.view_sessions.proofs.Parts.{read_text, read_no_text}
-use Rattle.view_sessions.proofs.query.decoded.Goals as goal
+use Rattle.view_sessions.proofs.value_text.unescaped.Goals as goal
 
 pub returns-in-Ok : goal.returns-in-Ok
 returns-in-Ok c =

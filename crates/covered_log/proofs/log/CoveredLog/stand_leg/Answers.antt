@@ -1,0 +1,21 @@
+use Rattle.std.proofs.Common.{◌≡◌, arith}
+use Rattle.std.specs.Prelude.{string_bytes}
+use Rattle.covered_log.specs.KeptState.{with_text}
+use Rattle.covered_log.specs.Lines.{LegStands, line_of}
+use Rattle.covered_log.proofs.LogLemmas.{log_keeps, log_loses, of_given}
+use Rattle.covered_log.proofs.log.CoveredLog.stand_leg.Goals as goal
+
+pub invariant_of-self : goal.invariant_of-self
+invariant_of-self c =
+    rw (c.in_err-keep.ensures.err, c.stand_leg.ensures)
+    (log_loses c.self.inside.kept c.self.inside.entries c.self.inside.entries c.self.inside.told
+    (LegStands c.args.at c.args.news.now) c.self.invariant (omega arith))
+
+pub invariant_of-self-2 : goal.invariant_of-self-2
+invariant_of-self-2 c =
+    let kept : c.keep.new.self ≡ with_text c.self.inside.kept (line_of c.self.inside.entries (LegStands c.args.at c.args.news.now)) =
+    of_given string_bytes (λ text. c.keep.new.self ≡ with_text c.self.inside.kept text) c.leg_change_line-line.result
+    (line_of c.self.inside.entries (LegStands c.args.at c.args.news.now)) c.leg_change_line-line.ensures c.in_ok-keep.ensures.ok in
+    rw (kept, c.stand_leg.ensures)
+    (log_keeps c.self.inside.kept c.self.inside.entries c.self.inside.entries c.self.inside.told
+    (LegStands c.args.at c.args.news.now) c.self.invariant (omega arith))

@@ -1,0 +1,124 @@
+-- How runs and legs stood when they were last told, and what is told of them after a commit.
+use Rattle.std.specs.Prelude.{ℕ, ◌+◌, ◌==◌, ◌&&◌, List, [], ◌∷◌, ◌++◌, codes, drop, length, map, nat_eq, slice_get, Bool, true, false, Option, Some, None, option_and_then, if◌then◌else◌}
+use Rattle.std.specs.List.{flat_map}
+use Rattle.std.specs.Option.{option_map_or}
+use Rattle.std.specs.Str.{bytes_eq}
+use Rattle.table_model.specs.Runs.{JobState, LegState, RunState, leg_site, placed}
+use Rattle.table_model.specs.TableState.{TableState}
+use Rattle.table_model.specs.ViewText.{conclusion_text, leg_text, seen_of, status_text}
+use Rattle.table_model.specs.declared.phases.RunPhase.{RunPhase}
+use Rattle.table_model.specs.declared.phases.RunPhase.TheVariants as phase
+use Rattle.table_model.specs.declared.sites.JobSite.{JobSite}
+use Rattle.table_model.specs.declared.sites.LegSite.{LegSite}
+use Rattle.table_views.specs.LeaseNames.{NamesState}
+use Rattle.table_views.specs.RunViews.{leg_news}
+use Rattle.table_views.specs.declared.told_legs.LegNews.{LegNews}
+use Rattle.covered_log.specs.Lines.{Begins, Change, LegStands, Stands}
+
+-- a run: its attempt, its status, its conclusion, or `-`, and the legs of its jobs
+pub record Standing : Type 0 where
+  pub attempt : ℕ
+  pub status : List ℕ
+  pub conclusion : List ℕ
+  pub jobs : List (List LegState)
+
+-- a run of which nothing was told
+abbrev pub untold : Standing
+untold = record { attempt = 0; status = []; conclusion = []; jobs = [] }
+
+-- the legs of the jobs of a run that goes on
+abbrev pub legs_to_keep : RunPhase → List JobState → List (List LegState)
+legs_to_keep phase.Waiting jobs = map (λ j. j.legs) jobs
+legs_to_keep phase.Live jobs = map (λ j. j.legs) jobs
+legs_to_keep phase.Ended jobs = []
+
+abbrev pub standing_of : RunState → Standing
+standing_of run = record {
+  attempt = run.attempt;
+  status = status_text run.phase run.jobs;
+  conclusion = conclusion_text run.phase run.jobs;
+  jobs = legs_to_keep run.phase run.jobs;
+}
+
+-- ---- what was told
+
+-- whether the attempt was told as completed
+abbrev pub is_over : Standing → RunState → Bool
+is_over s run = bytes_eq s.status (codes "completed") && s.attempt == run.attempt
+
+-- whether the attempt, the status and the conclusion are those that were told
+abbrev pub is_same : Standing → RunState → Bool
+is_same s run =
+    s.attempt == run.attempt
+    && (bytes_eq s.status (status_text run.phase run.jobs) && bytes_eq s.conclusion (conclusion_text run.phase run.jobs))
+
+-- a leg as it was told in an attempt, if it was
+abbrev pub told_leg : Standing → ℕ → LegSite → Option LegState
+told_leg s attempt p =
+    if s.attempt == attempt then option_and_then (λ legs. slice_get legs p.leg) (slice_get s.jobs p.job) else None
+
+abbrev pub is_same_lease : Option ℕ → Option ℕ → Bool
+is_same_lease None None = true
+is_same_lease (Some a) (Some b) = a == b
+is_same_lease _ _ = false
+
+-- whether the state and the lease are the same
+abbrev pub is_same_leg : LegState → LegState → Bool
+is_same_leg told leg = bytes_eq (leg_text told.phase) (leg_text leg.phase) && is_same_lease told.lease leg.lease
+
+-- ---- legs that stand differently than they were told
+
+abbrev pub moved_leg : NamesState → TableState → Standing → ℕ → LegSite → LegState → List LegNews
+moved_leg names t s attempt p leg =
+    if option_map_or (λ told. is_same_leg told leg) (told_leg s attempt p) false then [] else leg_news names t p attempt leg ∷ []
+
+-- those of a job
+abbrev pub moved_of_job : NamesState → TableState → Standing → ℕ → JobSite → List LegState → List LegNews
+moved_of_job names t s attempt p legs = flat_map (λ l. moved_leg names t s attempt (leg_site p.run p.job l.0) l.1) (placed legs)
+
+abbrev pub job_site : ℕ → ℕ → JobSite
+job_site r j = record { run = r; job = j }
+
+-- those of run `r`, in the order of job and leg
+abbrev pub moved_legs : NamesState → TableState → Standing → ℕ → RunState → List LegNews
+moved_legs names t s r run = flat_map (λ j. moved_of_job names t s run.attempt (job_site r j.0) j.1.legs) (placed run.jobs)
+
+-- ---- what is told of run `r`, of which this was told before, if anything was
+
+-- it begins an attempt: all members of its row
+abbrev pub beginning : ℕ → TableState → ℕ → RunState → Change
+beginning at t r run = option_map_or (λ seen. Begins at t.runs seen) (seen_of t.runs (r + 1)) (Stands at (r + 1) run)
+
+-- it does not stand as it was told
+abbrev pub moved_run : ℕ → TableState → Standing → ℕ → RunState → Change
+moved_run at t s r run = if s.attempt == run.attempt then Stands at (r + 1) run else beginning at t r run
+
+abbrev pub of_legs : ℕ → List LegNews → List Change
+of_legs at legs = map (λ news. LegStands at news) legs
+
+-- the run's own line
+abbrev pub run_news : ℕ → TableState → Standing → ℕ → RunState → List Change
+run_news at t s r run = if is_same s run then [] else moved_run at t s r run ∷ []
+
+-- First the run, if it is new or not as it was told; then each leg that is not as it was told. Of an attempt that was told as completed nothing
+-- more is told.
+abbrev pub news_of : ℕ → NamesState → TableState → Option Standing → ℕ → RunState → List Change
+news_of at names t None r run = beginning at t r run ∷ of_legs at (moved_legs names t untold r run)
+news_of at names t (Some s) r run =
+    if is_over s run then [] else run_news at t s r run ++ of_legs at (moved_legs names t s r run)
+
+-- how it stands for those that have read this
+abbrev pub told_of : NamesState → TableState → Option Standing → ℕ → RunState → Standing
+told_of names t None r run = standing_of run
+told_of names t (Some s) r run =
+    if is_over s run then s
+    else if is_same s run && nat_eq (length (moved_legs names t s r run)) 0 then s
+    else standing_of run
+
+-- ---- what is told of a table, run by run in the order of their ids
+
+abbrev pub table_news : ℕ → NamesState → TableState → List Standing → List Change
+table_news at names t known = flat_map (λ x. news_of at names t (slice_get known x.0) x.0 x.1) (placed t.runs)
+
+abbrev pub told_after : NamesState → TableState → List Standing → List Standing
+told_after names t known = map (λ x. told_of names t (slice_get known x.0) x.0 x.1) (placed t.runs) ++ drop (length t.runs) known
