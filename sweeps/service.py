@@ -124,10 +124,10 @@ class Service:
 class Forever(Service):
     """A process of `acts serve --forever`. What it prints of its histories is kept as it comes: `settled` has the number of entries of each."""
 
-    def __init__(self, acts, path, turn_over=None, idle=None, **how):
+    def __init__(self, acts, path, turn_over=None, idle=None, view_port=None, **how):
         words = ['--forever']
-        words += [] if turn_over is None else ['--turn-over', str(turn_over)]
-        words += [] if idle is None else ['--idle', str(idle)]
+        for option, value in (('--turn-over', turn_over), ('--idle', idle), ('--view-port', view_port)):
+            words += [] if value is None else [option, str(value)]
         super().__init__(acts, path, 1, endless=words, **how)
         self.settled, self.strange, self.news = [], [], threading.Condition()
         self.listener = threading.Thread(target=self.listen, daemon=True)
@@ -170,6 +170,10 @@ class Forever(Service):
         if before is not None or out or err:
             return f'the service ended with status {status}, {out!r}, {err!r}' if before is not None else f'the service said {out!r}, {err!r}'
         return None
+
+    def descriptors(self):
+        """How many descriptors it has open."""
+        return len(os.listdir(f'/proc/{self.child.pid}/fd'))
 
     def processor_time(self):
         """The processor seconds that it has used."""

@@ -1,5 +1,5 @@
 -- A session that hears another piece.
-use Rattle.std.proofs.Common.{◌≡◌, ◌⊎◌, ⊎_elim, ℕ, ◌+◌, ◌<◌, ◌≤◌, true, false, Bool, List, [], ◌∷◌, ◌++◌, length, refl, sym, ap, subst, ◌∙◌, inl, inr, append_assoc, length-append, arith, zero, suc}
+use Rattle.std.proofs.Common.{◌≡◌, ◌⊎◌, ⊎_elim, ℕ, ◌+◌, ◌<◌, ◌≤◌, true, false, Bool, List, [], ◌∷◌, ◌++◌, length, refl, sym, ap, subst, ◌∙◌, inl, inr, append_assoc, append-nil, length-append, arith, zero, suc}
 use Rattle.act_sessions.specs.Exchange.{Exchange}
 use Rattle.act_sessions.specs.Rules.{Rules, Turn, Answered, Refused, Reads, IsOpen, IsSteady, exchanges_of, texts}
 use Rattle.act_sessions.specs.Session.{ArePassed}
@@ -7,7 +7,7 @@ use Rattle.act_sessions.proofs.Joining.{IsEnded_append, IsOpen_append, Reads_app
 use Rattle.act_sessions.proofs.Listing.{Reads_grows}
 use Rattle.client_loop.specs.declared.pause.Pause.TheVariants as pause
 use Rattle.client_loop.specs.declared.pause.Pause.{Pause}
-use Rattle.client_loop.specs.Conversation.{AreAnswers, AreFew, Conversation, IsInMemory, IsLastText, answer_bytes}
+use Rattle.client_loop.specs.Conversation.{AllAnswered, AreAnswers, AreFew, Conversation, IsInMemory, IsLastText, IsTrueLast, answer_bytes}
 use Rattle.client_loop.specs.Hearing.{Hears}
 use Rattle.definitions.specs.Limits.{max_taken, max_withheld}
 use Rattle.client_loop.specs.inner.Turns.{Moment, TakesTurns}
@@ -18,6 +18,15 @@ module _ {F : Type 0} (p : Rules F) where
   passed_append n k us ts passed o e (still, inl all) = (IsOpen_append p n k us passed o e still, inl (ap (λ (l : List (Turn F)). us ++ l) all))
   passed_append n k us ts passed o e (still, inr (t, but)) =
       (IsOpen_append p n k us passed o e still, inr (t, ap (λ (l : List (Turn F)). us ++ l) but ∙ sym (append_assoc us passed (t ∷ []))))
+
+  answered_append : (us ts passed : List (Turn F)) → AllAnswered ts passed → AllAnswered (us ++ ts) (us ++ passed)
+  answered_append us ts passed (inl all) = inl (ap (λ (l : List (Turn F)). us ++ l) all)
+  answered_append us ts passed (inr (t, but, nothing)) =
+      inr (t, ap (λ (l : List (Turn F)). us ++ l) but ∙ sym (append_assoc us passed (t ∷ [])), nothing)
+
+  true_last : (turns passed : List (Turn F)) (last : List ℕ) → AllAnswered turns passed → IsLastText p last → IsTrueLast p turns passed last
+  true_last turns passed last all (inl none) = inl none
+  true_last turns passed last all (inr response) = inr (response, all)
 
   few_exchanges : (ts : List (Turn F)) (most : ℕ) → length ts ≤ most → length (exchanges_of ts) ≤ most
   few_exchanges [] most few = omega arith
@@ -159,12 +168,34 @@ module _ {F : Type 0} (p : Rules F) where
           us ++ took.paused.0,
           passed_append 0 count us took.turns took.paused.0 unended.0 count_is took.paused.1,
           last,
-          text,
+          true_last (us ++ took.turns) (us ++ took.paused.0) last (answered_append us took.turns took.paused.0 took.paused.2) text,
           ap (λ (l : List ℕ). old.sent ++ l) is ∙ sym (append_assoc old.sent end.out last)
-              ∙ ap (λ (l : List ℕ). l ++ last) (answers_on took.paused.0 end.out took.paused.2),
+              ∙ ap (λ (l : List ℕ). l ++ last) (answers_on took.paused.0 end.out took.paused.3),
         );
         waits = λ still none. cc;
         few_withheld = few_ended end.out last out text is (few pause.Memory false took);
+      };
+      held_is = λ still. cc;
+      room = λ still. cc;
+    }
+
+    pub at_unanswered : (more : Bool) → Took pause.Unanswered → IsInMemory p (after more true end.out) h
+    at_unanswered more took = record {
+      follows = record {
+        turns = us ++ took.turns;
+        rest = took.rest;
+        reads = reads_on pause.Unanswered took;
+        requests_are = λ still. cc;
+        exchanges_are = exchanges_on pause.Unanswered took;
+        answers_are = inr (
+          us ++ took.paused.0,
+          passed_append 0 count us took.turns took.paused.0 unended.0 count_is took.paused.1,
+          [],
+          inl refl,
+          answers_on took.paused.0 end.out took.paused.2 ∙ sym (append-nil (texts p 0 (us ++ took.paused.0))),
+        );
+        waits = λ still none. cc;
+        few_withheld = few pause.Unanswered true took;
       };
       held_is = λ still. cc;
       room = λ still. cc;
@@ -174,7 +205,8 @@ module _ {F : Type 0} (p : Rules F) where
     grew pause.Waits took = (texts p count took.turns, took.paused.6)
     grew pause.More took = (texts p count took.turns, took.paused.5)
     grew pause.Over took = (texts p count took.turns, took.paused.1)
-    grew pause.Memory took = (texts p count took.paused.0, took.paused.2)
+    grew pause.Memory took = (texts p count took.paused.0, took.paused.3)
+    grew pause.Unanswered took = (texts p count took.paused.0, took.paused.2)
 
     -- as many turns were taken as may be, or many bytes are withheld
     pub full_of : Took pause.More → (k ≡ count + max_taken) ⊎ (max_withheld ≤ length end.out)

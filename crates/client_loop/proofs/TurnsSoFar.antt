@@ -1,6 +1,6 @@
 -- Turns over a store, one after another.
 use Rattle.std.proofs.Common.{◌≡◌, ℕ, ◌+◌, ◌<◌, ◌≤◌, ◌⊎◌, ⊎_elim, true, false, Bool, List, [], ◌∷◌, ◌++◌, length, refl, sym, ap, subst, ◌∙◌, inl, inr, append-nil, append_assoc, length-append, arith}
-use Rattle.std.specs.Prelude.{Option, Some, None}
+use Rattle.std.specs.Prelude.{Option, Some, None, Ok, Err}
 use Rattle.std.proofs.lemmas.Bool.Decides.{nat_tests}
 use Rattle.act_sessions.specs.declared.request.Demand.{Demand}
 use Rattle.act_sessions.specs.declared.request.Demand.TheVariants as demand
@@ -9,10 +9,11 @@ use Rattle.act_sessions.specs.declared.turn_text.TurnText.{TurnText}
 use Rattle.act_sessions.specs.Taking.{IsText, TakesDemand}
 use Rattle.act_sessions.specs.Exchange.{Exchange}
 use Rattle.act_sessions.specs.Rules.{Rules, Turn, Answered, Refused, Reads, exchanges_at, exchanges_of, is_last, request_of, texts, turn_text}
+use Rattle.act_store.specs.Plain.{entry_of}
 use Rattle.act_store.specs.StoreState.{StoreState}
 use Rattle.client_loop.specs.declared.pause.Pause.TheVariants as pause
 use Rattle.client_loop.specs.inner.Authors.{IsEntered}
-use Rattle.client_loop.specs.Conversation.{AreFew}
+use Rattle.client_loop.specs.Conversation.{AreFew, EntersNothing}
 use Rattle.client_loop.specs.Entering.{Enters}
 use Rattle.client_loop.specs.declared.author.Author.{Author}
 use Rattle.definitions.specs.Limits.{max_withheld}
@@ -93,8 +94,8 @@ module _ {F D : Type 0} (p : Rules F) (number n most : ℕ) (bytes : List ℕ) (
   }
 
   -- no memory for the text of a turn
-  pub goes_silent : (k : ℕ) → TakesTurn p number count r mid new None → TakesTurns p number n most bytes old new k left pause.Memory
-  goes_silent k took = record {
+  pub goes_unanswered : (k : ℕ) → TakesTurn p number count r mid new None → TakesTurns p number n most bytes old new k left pause.Unanswered
+  goes_unanswered k took = record {
     turns = goes.turns ++ took.turn ∷ [];
     few = few_more took.turn;
     rest = left;
@@ -103,6 +104,20 @@ module _ {F D : Type 0} (p : Rules F) (number n most : ℕ) (bytes : List ℕ) (
     exchanges_are = asked_more took.turn took.exchanges_are;
     few_withheld = λ few. subst (AreFew p false) (sym took.writes) (goes.few_withheld few);
     paused = (goes.turns, (goes.unended, inr (took.turn, refl)), took.writes ∙ goes.wrote);
+  }
+
+  -- no memory for the text of a turn that entered nothing
+  pub goes_silent : (k : ℕ) → (took : TakesTurn p number count r mid new None) → EntersNothing took.turn
+      → TakesTurns p number n most bytes old new k left pause.Memory
+  goes_silent k took nothing = record {
+    turns = goes.turns ++ took.turn ∷ [];
+    few = few_more took.turn;
+    rest = left;
+    reads = reads_more took.turn took.is;
+    enters = enters_more took.turn took.enters;
+    exchanges_are = asked_more took.turn took.exchanges_are;
+    few_withheld = λ few. subst (AreFew p false) (sym took.writes) (goes.few_withheld few);
+    paused = (goes.turns, (goes.unended, inr (took.turn, refl)), inr (took.turn, refl, nothing), took.writes ∙ goes.wrote);
   }
 
 module _ {F D : Type 0} (p : Rules F) (number n most : ℕ) (bytes : List ℕ) (old new : Moment D) (count : ℕ) (held : List ℕ)
@@ -153,7 +168,7 @@ module _ {F D : Type 0} (p : Rules F) (number n most : ℕ) (bytes : List ℕ) (
     enters = goes.enters;
     exchanges_are = goes.exchanges_are;
     few_withheld = goes.few_withheld;
-    paused = (goes.turns, (goes.unended, inl refl), goes.wrote);
+    paused = (goes.turns, (goes.unended, inl refl), inl refl, goes.wrote);
   }
 
 writes_text : {F : Type 0} (p : Rules F) (n : ℕ) (t : Turn F) (out out_new : List ℕ) (text : TurnText) (r : Option Bool) → IsText p n t text
@@ -201,9 +216,23 @@ turn_appended p n (demand.Fault f) closes old new store store_new out out_new No
   writes = writes_none p n (Refused f closes) out out_new r wrote;
 }
 
+-- a turn after which the history is no longer than before entered nothing
+enters_nothing : {F D : Type 0} (number : ℕ) (t : Turn F) (old new : StoreState D) → Enters number old (exchanges_at t) new
+    → length new.history ≤ length old.history → EntersNothing t
+enters_nothing {F} {D} number (Answered c closes (Ok reply)) old new (mid, one, is) short =
+    let e = ap (λ (s : StoreState D). length s.history) (is ∙ one.0) in
+    let f = length-append old.history (entry_of old number c ∷ []) in
+    absurd (omega (arith, e, f, short))
+enters_nothing number (Answered c closes (Err refusal)) old new enters short = tt
+enters_nothing number (Refused f closes) old new enters short = tt
+
 pub round_ends : {F D : Type 0} (p : Rules F) (number n most : ℕ) (bytes : List ℕ) (old mid new : Moment D) (count : ℕ) (held left : List ℕ) (r : Request F)
     → count < n + most → length mid.out < max_withheld → Goes p number n bytes old mid count held → p.reads held r left → (last : Option Bool) → TakesTurn p number count r mid new last
-    → EndsRound p number n most bytes old new count left (pause_after last)
-round_ends p number n most bytes old mid new count held left r below short goes reads (Some true) took = goes_over p number n most bytes old mid new count held left r below short goes reads count took
-round_ends p number n most bytes old mid new count held left r below short goes reads (Some false) took = goes_on p number n most bytes old mid new count held left r below short goes reads took
-round_ends p number n most bytes old mid new count held left r below short goes reads None took = goes_silent p number n most bytes old mid new count held left r below short goes reads count took
+    → (entered : Bool) → (entered ≡ false → length new.store.history ≤ length mid.store.history)
+    → EndsRound p number n most bytes old new count left (pause_after last entered)
+round_ends p number n most bytes old mid new count held left r below short goes reads (Some true) took entered grown = goes_over p number n most bytes old mid new count held left r below short goes reads count took
+round_ends p number n most bytes old mid new count held left r below short goes reads (Some false) took entered grown = goes_on p number n most bytes old mid new count held left r below short goes reads took
+round_ends p number n most bytes old mid new count held left r below short goes reads None took true grown = goes_unanswered p number n most bytes old mid new count held left r below short goes reads count took
+round_ends p number n most bytes old mid new count held left r below short goes reads None took false grown =
+    goes_silent p number n most bytes old mid new count held left r below short goes reads count took
+    (enters_nothing number took.turn mid.store new.store took.enters (grown refl))

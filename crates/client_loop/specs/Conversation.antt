@@ -1,7 +1,7 @@
 -- What one client sent, and how it was answered.
-use Rattle.std.specs.Prelude.{◌≡◌, ◌⊎◌, ℕ, ◌+◌, ◌≤◌, ◌<◌, Bool, true, false, List, [], ◌++◌, length, Some}
+use Rattle.std.specs.Prelude.{◌≡◌, ◌⊎◌, ℕ, ◌+◌, ◌≤◌, ◌<◌, Bool, true, false, List, [], ◌∷◌, ◌++◌, length, Some, Ok, Err, ⊤}
 use Rattle.act_sessions.specs.Exchange.{Exchange}
-use Rattle.act_sessions.specs.Rules.{Rules, Turn, Reads, IsEnded, IsOpen, exchanges_of, texts, turn_text}
+use Rattle.act_sessions.specs.Rules.{Rules, Turn, Answered, Refused, Reads, IsEnded, IsOpen, exchanges_of, texts, turn_text}
 use Rattle.act_sessions.specs.Session.{ArePassed}
 use Rattle.definitions.specs.Limits.{max_withheld}
 
@@ -30,10 +30,24 @@ no_conversation = record { received = []; requests = 0; exchanges = []; sent = [
 abbrev pub IsLastText : {F : Type 0} → Rules F → List ℕ → Type 0
 IsLastText p last = (last ≡ []) ⊎ (p.out_of_memory_response ≡ Some last)
 
+-- a turn that entered no command: it had none, or it was refused
+abbrev pub EntersNothing : {F : Type 0} → Turn F → Type 0
+EntersNothing (Answered command closes (Ok reply)) = ⊥
+EntersNothing (Answered command closes (Err refusal)) = ⊤
+EntersNothing (Refused fault closes) = ⊤
+
+-- Every command that these turns entered is answered: the passed ones are all, or all but the last, which entered nothing.
+abbrev pub AllAnswered : {F : Type 0} → List (Turn F) → List (Turn F) → Type 0
+AllAnswered {F} turns passed = (turns ≡ passed) ⊎ ((t : Turn F) × (turns ≡ passed ++ t ∷ []) × EntersNothing t)
+
+-- The response says that nothing was done. So it is given only where every command that was entered is answered.
+abbrev pub IsTrueLast : {F : Type 0} → Rules F → List (Turn F) → List (Turn F) → List ℕ → Type 0
+IsTrueLast p turns passed last = (last ≡ []) ⊎ ((p.out_of_memory_response ≡ Some last) × AllAnswered turns passed)
+
 -- It ran out of memory outside a command: the texts of all turns, or of all but the last one, and then that response or nothing.
 abbrev pub IsCutShort : {F : Type 0} → Rules F → List (Turn F) → List ℕ → Type 0
 IsCutShort {F} p turns bytes =
-    (passed : List (Turn F)) × ArePassed p 0 turns passed × (last : List ℕ) × IsLastText p last × (bytes ≡ texts p 0 passed ++ last)
+    (passed : List (Turn F)) × ArePassed p 0 turns passed × (last : List ℕ) × IsTrueLast p turns passed last × (bytes ≡ texts p 0 passed ++ last)
 
 -- the bytes that answer one request, or none
 abbrev pub IsAnswer : {F : Type 0} → Rules F → List ℕ → Type 0

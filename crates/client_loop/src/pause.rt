@@ -7,6 +7,8 @@ pub(crate) enum Pause {
     More,
     /// Its last turn ended it.
     Over,
-    /// It ran out of memory outside a command.
+    /// It ran out of memory, and every command that was entered is answered.
     Memory,
+    /// It ran out of memory for the answer to a command that was entered.
+    Unanswered,
 }

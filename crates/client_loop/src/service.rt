@@ -62,8 +62,8 @@ impl<D: Disk, P: Protocol, Q: Protocol> Service<D, P, Q> {
     ///   those withheld are, together, the protocol's answers
     /// By: `client_loop::Service::is_covered`, `promise` (`IsClient`, `Follows`, `AreAnswers`)
     /// Promise (A service in one thread): A session that runs out of memory outside a command ends with the protocol's response or nothing; the
-    ///   last answer may then be missing
-    /// By: `client_loop::Service::is_covered`, `promise` (`IsCutShort`)
+    ///   last answer may then be missing, and if its command was entered the session ends with nothing
+    /// By: `client_loop::Service::is_covered`, `promise` (`IsCutShort`, `IsTrueLast`)
     pub fn is_covered(&self) -> bool
         ensures covered { IsTrue result ↔ (length (history_of self.now) ≤ covered_of self.now) }
         ensures promise { IsPromised (by_port self.now.slots.hooks P.rules Q.rules) D.honest D.images self.now }

@@ -164,6 +164,10 @@ impl<P: Protocol> Session<P> {
             Pause::Over => {
                 self.over = true;
             }
+            // The protocol's response would say that nothing was done.
+            Pause::Unanswered => {
+                self.over = true;
+            }
             Pause::Memory => {
                 self.over = true;
                 append_last_text::<P>(&mut self.out);

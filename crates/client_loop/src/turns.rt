@@ -48,13 +48,14 @@ fn append_turn<P: Protocol, D: Disk>(
     append(out, text)
 }
 
-/// Why there is no further turn after one.
-fn pause_after(last: Option<bool>) -> Option<Pause>
-    ensures { result ≡ pause_after last }
+/// Why there is no further turn after one, whose command was entered or not.
+fn pause_after(last: Option<bool>, entered: bool) -> Option<Pause>
+    ensures { result ≡ pause_after last entered }
 {
     match last {
         Some(false) => None,
         Some(true) => Some(Pause::Over),
+        None if entered => Some(Pause::Unanswered),
         None => Some(Pause::Memory),
     }
 }
@@ -78,8 +79,9 @@ fn take_round<P: Protocol, D: Disk>(
         Err(_) => Some(Pause::Memory),
         Ok(None) => Some(Pause::Waits),
         Ok(Some(request)) => {
+            let before = store.entries();
             let last = append_turn::<P, D>(alloc, store, number, request, count, exchanges, out);
-            pause_after(last)
+            pause_after(last, before < store.entries())
         }
     }
 }

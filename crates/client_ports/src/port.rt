@@ -11,6 +11,10 @@ use std::os::fd::AsRawFd;
 /// The most clients that a port has. Others wait until one of them leaves.
 pub const MAX_CLIENTS: usize = 1024;
 
+/// How many connections wait in the system's queue of a port, while all slots are taken or the device takes its time. The system
+/// drops others, and their clients try again after one second, then two, four and so on. There are fewer than slots.
+const WAITING: i32 = 512;
+
 /// The permanent errors of the system's `accept`: the listener cannot be used.
 const EBADF: i32 = 9;
 
@@ -72,6 +76,7 @@ impl<'a> Port<'a> {
     pub fn watch(&self, registry: &Registry, token: Token) -> io::Result<()> {
         self.listener.set_nonblocking(true)?;
         let fd = self.listener.as_raw_fd();
+        let _ = libc::net::listen(fd, WAITING);
         registry.register(&mut SourceFd(&fd), token, Interest::READABLE)
     }
 

@@ -200,10 +200,10 @@ static OF_COMMANDS: [Explanation; 10] = [
 static OF_STORES: [Explanation; 8] = [
     Explanation {
         number: "50",
-        meaning: "out of memory: what was asked was not done",
+        meaning: "out of memory: what was asked was not done; only in rounds of a service it may have been",
         input: "any, on a machine that has no memory left",
-        remedy: "free memory, and try again: the table is as it was; a client of a service opens a new session, and sends \
-            the same again: a delivery makes one run, and a runner's last number gets its reply again",
+        remedy: "free memory, and try again; a client of a service opens a new session, and sends the same again: a \
+            delivery makes one run, and a runner's last number gets its reply again",
     },
     Explanation {
         number: "51",

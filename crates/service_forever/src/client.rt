@@ -117,8 +117,12 @@ impl Client {
         self.stage == Stage::Owes || may_be_read
     }
 
-    /// Whether it has been silent for `idle`, or too long after its session, or has left its answers for too long.
+    /// Whether it has been silent for `idle`, or too long after its session, or has left its answers for too long. One that
+    /// waits to be heard is not silent.
     pub(crate) fn is_idle(&self, now: Instant, idle: Duration) -> bool {
+        if self.is_queued && self.stage != Stage::Owes {
+            return false;
+        }
         let limit = match self.stage {
             Stage::Talks => idle,
             Stage::Owes => Duration::from_millis(PATIENCE),

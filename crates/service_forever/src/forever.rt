@@ -22,8 +22,8 @@ use std::time::{Clock, Duration, Instant, SystemTime, UNIX_EPOCH};
 use view_port::{ViewPort, Views};
 use wf_value::{Code, Refusal};
 
-/// The most events that are taken at once.
-const EVENTS: usize = 1_024;
+/// The most events that are taken at once. There are fewer clients and listeners, so one look sees what all of them have done.
+const EVENTS: usize = 4 * MAX_CLIENTS;
 
 /// The most bytes that one read takes from a client.
 const PIECE: usize = 16_384;
@@ -138,6 +138,7 @@ fn gather<D: Disk, R: Clock>(
 ) -> Result<(), Refusal> {
     watch.look(turns, wait)?;
     turns.begin(rt);
+    turns.has_looked();
     turns.accept(0)?;
     turns.accept(1)?;
     turns.hear_all();

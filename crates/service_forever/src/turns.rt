@@ -92,6 +92,8 @@ pub(crate) struct Turns<'a, D: Disk> {
     began: Instant,
     /// When the last commit ended, in milliseconds since 1970.
     committed: u64,
+    /// When it was last seen what clients have sent and taken.
+    looked: Instant,
     /// When silent clients were last looked for.
     swept: Instant,
     /// Whether clients leave, or answers wait.
@@ -123,6 +125,7 @@ impl<'a, D: Disk> Turns<'a, D> {
             now,
             began: now,
             committed: 0,
+            looked: now,
             swept: now,
             is_restless: false,
         }
@@ -135,7 +138,17 @@ impl<'a, D: Disk> Turns<'a, D> {
             return Duration::ZERO;
         }
         let since = self.now.saturating_duration_since(self.swept);
-        Duration::from_millis(self.pause()).saturating_sub(since)
+        let rest = Duration::from_millis(self.pause()).saturating_sub(since);
+        match self.until_due() {
+            Some(due) if due < rest => due,
+            _ => rest,
+        }
+    }
+
+    /// How long until a client of the view port has waited for changes for long enough, if one waits.
+    fn until_due(&self) -> Option<Duration> {
+        let due = self.views.as_ref()?.due()?;
+        Some(due.saturating_duration_since(self.now))
     }
 
     /// Whether a client of the view port is to be served.
@@ -169,6 +182,11 @@ impl<'a, D: Disk> Turns<'a, D> {
         if let Ok(now) = Instant::now(clock) {
             self.now = now;
         }
+    }
+
+    /// What clients have sent and taken by now was seen.
+    pub(crate) fn has_looked(&mut self) {
+        self.looked = self.now;
     }
 
     /// The turn has heard its first clients.
@@ -346,16 +364,17 @@ impl<'a, D: Disk> Turns<'a, D> {
         }
     }
 
-    /// Accepts the connections that have come to the view port.
-    fn accept_views(&mut self) -> Result<(), Refusal> {
-        if let Some(views) = &mut self.views {
-            for _ in 0..ACCEPTED {
-                if !views.accept(self.alloc, self.now)? {
-                    break;
-                }
+    /// Accepts connections that have come to the view port. Returns whether there were some.
+    fn accept_views(&mut self) -> Result<bool, Refusal> {
+        let Some(views) = &mut self.views else {
+            return Ok(false);
+        };
+        for count in 0..ACCEPTED {
+            if !views.accept(self.alloc, self.now)? {
+                return Ok(count > 0);
             }
         }
-        Ok(())
+        Ok(true)
     }
 
     /// Serves the next client of the view port. Returns false if there is none.
@@ -385,7 +404,7 @@ impl<'a, D: Disk> Turns<'a, D> {
     }
 
     /// Serves clients of the view port, while all entries are covered: one, and more as long as that takes less than a
-    /// tenth of the turn so far.
+    /// tenth of the turn so far. Those whose wait for changes is over come first, and new ones last.
     pub(crate) fn show<R: Clock>(&mut self, rt: &R) -> Result<(), Refusal> {
         self.accept_views()?;
         if !self.service.is_covered() {
@@ -394,10 +413,12 @@ impl<'a, D: Disk> Turns<'a, D> {
         let Some(views) = &mut self.views else {
             return Ok(());
         };
+        views.call_due(self.now);
         views.take_up(self.alloc, self.service.store(), self.committed, self.now);
         let most = self.time_to_show(rt);
         for _ in 0..MAX_CLIENTS {
-            if !self.show_next() || elapsed(rt, self.began) >= most {
+            let is_shown = self.show_next() || self.accept_views()?;
+            if !is_shown || elapsed(rt, self.began) >= most {
                 break;
             }
         }
@@ -454,7 +475,8 @@ impl<'a, D: Disk> Turns<'a, D> {
         }
     }
 
-    /// Closes the clients that have been silent for too long.
+    /// Closes the clients that had been silent for too long when they were last looked at. What they do while the device takes
+    /// its time is seen only later.
     pub(crate) fn sweep(&mut self) {
         let since = self.now.saturating_duration_since(self.swept);
         if since < Duration::from_millis(self.pause()) {
@@ -466,15 +488,26 @@ impl<'a, D: Disk> Turns<'a, D> {
             self.look_at(slot);
         }
         if let Some(views) = &mut self.views {
-            self.is_restless = views.sweep(self.now, self.limits.idle) || self.is_restless;
+            self.is_restless = views.sweep(self.looked, self.limits.idle) || self.is_restless;
         }
     }
 
+    /// Sends the client in a slot more of the answers that wait for it, if it takes more.
+    fn send_more(&mut self, slot: usize) {
+        if let Some(client) = self.clients.get(slot) {
+            if client.stage() == Stage::Owes {
+                self.release(slot);
+            }
+        }
+    }
+
+    /// Closes the client in a slot if it had been silent for too long.
     fn look_at(&mut self, slot: usize) {
+        self.send_more(slot);
         let Some(client) = self.clients.get(slot) else {
             return;
         };
-        if client.is_idle(self.now, self.limits.idle) {
+        if client.is_idle(self.looked, self.limits.idle) {
             self.close(slot);
         } else if client.stage() != Stage::Talks {
             self.is_restless = true;

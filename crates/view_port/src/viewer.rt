@@ -57,7 +57,7 @@ pub(crate) struct Viewer {
 }
 
 impl Viewer {
-    /// A client that has just connected.
+    /// A client that has just connected, and may have sent something.
     pub(crate) fn new(alloc: Global, stream: TcpStream, now: Instant) -> io::Result<Viewer> {
         stream.set_nodelay(true)?;
         stream.set_nonblocking(true)?;
@@ -65,7 +65,7 @@ impl Viewer {
             stream,
             session: ViewSession::new(alloc),
             moved: now,
-            input: Input::Drained,
+            input: Input::More,
             is_closing: false,
             leaves: false,
             discarded: 0,
@@ -92,25 +92,24 @@ impl Viewer {
         self.leaves || self.session.owes()
     }
 
-    /// Whether it has been silent for too long.
+    /// Whether it has been silent for too long. One that waits for changes, or to be served, is not silent.
     pub(crate) fn is_idle(&self, now: Instant, idle: Duration) -> bool {
-        if self.waiting.is_some() {
-            return false;
-        }
-        let limit = if self.leaves {
-            Duration::from_millis(LEAVING)
-        } else if self.session.owes() {
+        let limit = if self.session.owes() {
             Duration::from_millis(PATIENCE)
+        } else if self.waiting.is_some() || self.is_queued {
+            return false;
+        } else if self.leaves {
+            Duration::from_millis(LEAVING)
         } else {
             idle
         };
         now.saturating_duration_since(self.moved) >= limit
     }
 
-    /// Whether its wait for changes is over.
+    /// Whether its wait for changes is over: its time has come, or it has closed its side, as one that has gone.
     pub(crate) fn has_waited(&self, now: Instant) -> bool {
         match &self.waiting {
-            Some(waiting) => waiting.until <= now,
+            Some(waiting) => self.is_closing || waiting.until <= now,
             None => false,
         }
     }
@@ -163,14 +162,19 @@ impl Viewer {
         }
     }
 
-    /// Sends it what it takes of its answer. Returns whether it takes more.
-    fn send(&mut self, now: Instant) -> Writable {
+    /// Sends it what it takes of its answer. Returns whether it took something, and whether it takes more.
+    fn send(&mut self, now: Instant) -> (bool, Writable) {
         let mut writer = ClientWriter::new(&self.stream);
         let (moved, writable) = self.session.send(&mut writer, WRITES);
         if moved {
             self.moved = now;
         }
-        writable
+        (moved, writable)
+    }
+
+    /// Sends it more of its answer. Returns whether it took something.
+    pub(crate) fn takes_more(&mut self, now: Instant) -> bool {
+        self.session.owes() && self.send(now).0
     }
 
     /// Sends it what it takes of its answer, and says what it does next.
@@ -180,7 +184,7 @@ impl Viewer {
         }
         let owed = self.session.owes();
         if owed {
-            let writable = self.send(now);
+            let (_, writable) = self.send(now);
             if self.session.owes() {
                 return next_writing(writable);
             }
@@ -192,10 +196,11 @@ impl Viewer {
                 Err(_) => Next::Closes,
             };
         }
-        if self.waiting.is_some() {
-            return Next::Waits;
+        match &self.waiting {
+            Some(_) if self.is_closing => Next::Again,
+            Some(_) => Next::Waits,
+            None => self.after_sending(owed),
         }
-        self.after_sending(owed)
     }
 
     /// Whether only the head of an answer to what it asks is wanted, if it asks for something.

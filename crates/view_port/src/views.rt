@@ -41,6 +41,8 @@ pub struct Views<'a> {
     queue: VecDeque<usize>,
     /// The slots of those that wait for changes.
     waiting: Vec<usize>,
+    /// When the first of them has waited for long enough, or earlier.
+    due: Option<Instant>,
     kept: Kept,
 }
 
@@ -76,6 +78,7 @@ impl<'a> Views<'a> {
             slots: empty_slots(alloc)?,
             queue: VecDeque::with_capacity(alloc, MAX_CLIENTS)?,
             waiting: Vec::with_capacity(alloc, MAX_CLIENTS)?,
+            due: None,
             kept: Kept::new(alloc, process, now, table)?,
         })
     }
@@ -132,6 +135,7 @@ impl<'a> Views<'a> {
         Ok(true)
     }
 
+    /// Puts a client into its slot, registers its stream, and queues it.
     fn add(
         &mut self,
         alloc: Global,
@@ -147,6 +151,7 @@ impl<'a> Views<'a> {
         if let Some(cell) = self.slots.get_mut(slot) {
             *cell = Some(viewer);
         }
+        self.enqueue(slot);
         Ok(())
     }
 
@@ -159,20 +164,20 @@ impl<'a> Views<'a> {
         self.port.vacate(slot);
     }
 
-    /// Closes the clients that have been silent for too long, and queues those that have waited for changes for long enough.
-    /// Returns whether clients leave, or answers wait.
+    /// Closes the clients that had been silent for too long when they were last looked at. Returns whether clients leave, or
+    /// answers wait.
     pub fn sweep(&mut self, now: Instant, idle: Duration) -> bool {
         let mut is_restless = false;
         for slot in 0..self.slots.len() {
             let Some(viewer) = self.get(slot) else {
                 continue;
             };
-            if viewer.is_idle(now, idle) {
-                self.close(slot);
-            } else if viewer.has_waited(now) {
+            if !viewer.is_idle(now, idle) {
+                is_restless = is_restless || viewer.is_restless();
+            } else if viewer.takes_more(now) {
                 self.enqueue(slot);
             } else {
-                is_restless = is_restless || viewer.is_restless();
+                self.close(slot);
             }
         }
         is_restless
@@ -191,6 +196,55 @@ impl<'a> Views<'a> {
     /// A new history has begun.
     pub fn turn_over(&mut self) {
         self.kept.turn_over();
+    }
+
+    // ---- those that wait for changes
+
+    /// When a client that waits for changes is to be served at the latest, if one waits.
+    pub fn due(&self) -> Option<Instant> {
+        self.due
+    }
+
+    /// Whether a client that waits for changes is to be served by a moment.
+    fn is_due_by(&self, moment: Instant) -> bool {
+        match &self.due {
+            Some(due) => *due <= moment,
+            None => false,
+        }
+    }
+
+    /// A client waits for changes until a moment.
+    fn note_due(&mut self, until: Instant) {
+        if !self.is_due_by(until) {
+            self.due = Some(until);
+        }
+    }
+
+    /// Queues those whose wait is over before all others.
+    pub fn call_due(&mut self, now: Instant) {
+        if !self.is_due_by(now) {
+            return;
+        }
+        self.due = None;
+        for slot in 0..self.slots.len() {
+            self.call(slot, now);
+        }
+    }
+
+    /// Queues the client in a slot before the others if its wait is over.
+    fn call(&mut self, slot: usize, now: Instant) {
+        let Some(viewer) = self.get(slot) else {
+            return;
+        };
+        let Some(waiting) = viewer.waiting else {
+            return;
+        };
+        if waiting.until > now {
+            self.note_due(waiting.until);
+        } else if !viewer.is_queued {
+            viewer.is_queued = true;
+            let _ = self.queue.push_front(slot);
+        }
     }
 
     // ---- what they are shown
@@ -232,13 +286,13 @@ impl<'a> Views<'a> {
                     closes,
                 });
                 let _ = self.waiting.push(slot);
+                self.note_due(until);
             }
         }
     }
 
     /// Gives the client in a slot that waits for changes an answer, if there is one by now.
-    fn serve_waiting(&mut self, alloc: Global, slot: usize, waiting: Waiting, now: Instant) {
-        let is_over = waiting.until <= now;
+    fn serve_waiting(&mut self, alloc: Global, slot: usize, waiting: Waiting, is_over: bool) {
         match self.kept.made_later(alloc, waiting.query, is_over) {
             Made::Answer(answer) => {
                 self.waiting.retain(|other| *other != slot);
@@ -263,7 +317,8 @@ impl<'a> Views<'a> {
         };
         viewer.is_queued = false;
         if let Some(waiting) = viewer.waiting {
-            self.serve_waiting(alloc, slot, waiting, now);
+            let is_over = viewer.has_waited(now);
+            self.serve_waiting(alloc, slot, waiting, is_over);
         } else if let Some(request) = viewer.next(alloc, buffer, now) {
             let made = self.kept.made(alloc, seen, &request);
             self.give(alloc, slot, made, request.head_only, request.closes, now);

@@ -7,8 +7,8 @@ use Rattle.act_sessions.specs.Rules.{Rules, Turn, Reads, IsEnded, IsOpen, exchan
 use Rattle.act_sessions.specs.Session.{ArePassed}
 use Rattle.act_store.specs.StoreState.{StoreState}
 use Rattle.client_loop.specs.declared.pause.Pause.{Pause}
-use Rattle.client_loop.specs.declared.pause.Pause.TheVariants.{Memory, More, Over, Waits}
-use Rattle.client_loop.specs.Conversation.{AreFew}
+use Rattle.client_loop.specs.declared.pause.Pause.TheVariants.{Memory, More, Over, Unanswered, Waits}
+use Rattle.client_loop.specs.Conversation.{AllAnswered, AreFew}
 use Rattle.client_loop.specs.Entering.{Enters}
 use Rattle.definitions.specs.Limits.{max_withheld}
 
@@ -18,11 +18,12 @@ pub record Moment (D : Type 0) : Type 0 where
   pub exchanges : List Exchange
   pub out : List ℕ
 
--- why there is no further turn after one
-abbrev pub pause_after : Option Bool → Option Pause
-pause_after (Some true) = Some Over
-pause_after (Some false) = None
-pause_after None = Some Memory
+-- why there is no further turn after one, whose command was entered or not
+abbrev pub pause_after : Option Bool → Bool → Option Pause
+pause_after (Some true) entered = Some Over
+pause_after (Some false) entered = None
+pause_after None true = Some Unanswered
+pause_after None false = Some Memory
 
 -- The text was appended, and whether it is the last is returned; or there was no text, or no memory for it.
 abbrev pub Appended : Option TurnText → List ℕ → List ℕ → Option Bool → Type 0
@@ -45,7 +46,7 @@ pub record TakesTurn {F D : Type 0} (p : Rules F) (number n : ℕ) (request : Re
   pub writes : Writes p n turn old.out new.out result
 
 -- How turns pause, after n others: the bytes wait for more; as many turns were taken as may be, or many bytes are withheld; the last turn
--- ended the session; or it ran out of memory.
+-- ended the session; or it ran out of memory, where every command that was entered is answered, or perhaps not the last one.
 abbrev pub IsPaused : {F : Type 0} → Rules F → ℕ → ℕ → List (Turn F) → List ℕ → ℕ → List ℕ → List ℕ → List ℕ → Pause → Type 0
 IsPaused p n most turns rest count held out out_new Waits =
     IsOpen p n turns × (rest ≡ held) × p.waits held × (length held < p.limit) × (count ≡ n + length turns) × (count < p.most) × (out_new ≡ out ++ texts p n turns)
@@ -54,6 +55,8 @@ IsPaused p n most turns rest count held out out_new More =
     × (out_new ≡ out ++ texts p n turns)
 IsPaused p n most turns rest count held out out_new Over = IsEnded p n turns × (out_new ≡ out ++ texts p n turns)
 IsPaused {F} p n most turns rest count held out out_new Memory =
+    (passed : List (Turn F)) × ArePassed p n turns passed × AllAnswered turns passed × (out_new ≡ out ++ texts p n passed)
+IsPaused {F} p n most turns rest count held out out_new Unanswered =
     (passed : List (Turn F)) × ArePassed p n turns passed × (out_new ≡ out ++ texts p n passed)
 
 -- The next turns of the bytes, after n others, at most so many.
