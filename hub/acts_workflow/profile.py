@@ -36,7 +36,7 @@ ADVICE = {
     25: 'Write the matrix as lists in the workflow, `fail-fast` as true or false, '
         'and `max-parallel` as a number from 1 to 256.',
     26: 'Let the job run with always() or !cancelled(), and put the condition on its steps.',
-    47: 'Forget old runs, or make a store with larger areas: the event does not fit the store.',
+    47: 'Copy the store into a larger file by acts grow: the event does not fit it.',
     48: 'Begin a new store: this one has had as many runs as it can number.',
 }
 

@@ -65,4 +65,5 @@ def test_addresses_of_the_sender() -> None:
 
 def test_how_full_a_file_is() -> None:
     text = '# TYPE acts_area_bytes gauge\nacts_area_bytes 1000\nacts_area_room_bytes 50\nacts_area_bytes_more 7\n'
-    assert full_of(text) == 0.95 and full_of('') == 0.0 and full_of('acts_area_bytes 0\nacts_area_room_bytes 0\n') == 0.0
+    assert (full_of(text), full_of(text, 20), full_of(text, 80)) == (0.95, 0.97, 1.0)
+    assert full_of('') == 0.0 and full_of('acts_area_bytes 0\nacts_area_room_bytes 0\n') == 0.0

@@ -179,8 +179,8 @@ static OF_COMMANDS: [Explanation; 10] = [
         number: "47",
         meaning: "the record of the command does not fit the area of the store's file",
         input: "look 1 and commit, 283 times each, and then an admit, over areas of 4,096 bytes",
-        remedy: "make a new store with larger areas by acts init; a client opens a new session once the service serves it, \
-            and sends the same again",
+        remedy: "copy the store into a file with larger areas by acts grow, and serve that; a client opens a new session then, and \
+            sends the same again",
     },
     Explanation {
         number: "48",
@@ -235,7 +235,7 @@ static OF_STORES: [Explanation; 8] = [
     },
     Explanation {
         number: "55",
-        meaning: "the file is not empty, so no new store is made in it",
+        meaning: "the file is not empty, so no new store is made in it; acts grow makes none in an empty file either",
         input: "acts init FILE 4096, a second time",
         remedy: "name another file, or move this one away",
     },
@@ -250,7 +250,7 @@ static OF_STORES: [Explanation; 8] = [
         number: "57",
         meaning: "the active area has the layout of an earlier program, in which a run has only its first attempt",
         input: "a re-run, over a file of an earlier program that has no room for a checkpoint",
-        remedy: "make a new store with larger areas by acts init, as after 47; a service upgrades a file to the current \
+        remedy: "copy the store into a file with larger areas by acts grow, as after 47; a service upgrades a file to the current \
             layout before it is ready, if a checkpoint fits, and so do the checkpoints beside its sessions",
     },
 ];

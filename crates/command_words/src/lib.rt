@@ -15,5 +15,5 @@ pub use explain::{Explanation, numbers};
 pub use message::{Message, Unparsed};
 pub use requests::{Request, not_text, parse};
 pub use serving::{Serving, Sessions, Span};
-pub use storing::AreaLength;
+pub use storing::{AreaLength, Growth};
 pub use viewing::{RunId, Shown, View};

@@ -5,7 +5,7 @@ use crate::explain::{Explanation, explanation_of};
 use crate::making::{Made, with_arg, with_subcommand};
 use crate::message::Unparsed;
 use crate::serving::{Serving, serve_command, serving_of};
-use crate::storing::{AreaLength, area_of, init_command};
+use crate::storing::{AreaLength, Growth, area_of, grow_command, growth_of, init_command};
 use crate::viewing::{Shown, View, runs_of, view_of, with_views};
 use clap::error::ErrorKind;
 use clap::{Arg, ArgMatches, Command, Error};
@@ -26,6 +26,8 @@ pub enum Request<'a> {
     Lint,
     /// Make a store in this file.
     Init(&'a str, AreaLength),
+    /// Copy a store into a new file.
+    Grow(Growth<'a>),
     /// Show a store.
     Show(View<'a>),
     Serve(Serving<'a>),
@@ -75,6 +77,7 @@ fn with_readers<'a>(alloc: Global, acts: Made<'a>) -> Made<'a> {
 /// Adds the subcommands on a store in a file.
 fn with_stores<'a>(alloc: Global, acts: Made<'a>) -> Made<'a> {
     let acts = with_subcommand(acts, init_command(alloc));
+    let acts = with_subcommand(acts, grow_command(alloc));
     with_subcommand(with_views(alloc, acts), serve_command(alloc))
 }
 
@@ -121,6 +124,7 @@ fn request_of<'a>(matches: &ArgMatches<'a>) -> Option<Request<'a>> {
         Some(("check", _)) => Some(Request::Check),
         Some(("lint", _)) => Some(Request::Lint),
         Some(("init", matches)) => init_of(matches),
+        Some(("grow", matches)) => Some(Request::Grow(growth_of(matches)?)),
         Some(("serve", matches)) => Some(Request::Serve(serving_of(matches)?)),
         Some(("explain", matches)) => explain_of(matches),
         Some((name, matches)) => view_request(name, matches),

@@ -1,4 +1,4 @@
-//! The words of the subcommand that makes a store: `acts init`.
+//! The words of the subcommands that make a store: `acts init` and `acts grow`.
 
 ghost use Rattle.std.specs.Prelude.{◌≤◌};
 ghost use Rattle.definitions.specs.Limits.{max_area, min_area};
@@ -31,22 +31,64 @@ impl AreaLength {
     }
 }
 
-/// `acts init FILE AREA`.
-pub(crate) fn init_command<'a>(alloc: Global) -> Made<'a> {
-    let file = Arg::new(alloc, "FILE")
-        .required(true)
-        .help("The file to create; if it exists, it has to be empty");
-    let area = Arg::new(alloc, "AREA")
+/// The file of a store, the new one into which it is copied, and the length of each area there.
+#[derive(Drop)]
+pub struct Growth<'a> {
+    pub file: &'a str,
+    pub new: &'a str,
+    pub area: AreaLength,
+}
+
+/// An argument that is a path.
+fn path_argument<'a>(alloc: Global, name: &'a str, help: &'a str) -> Arg<'a> {
+    Arg::new(alloc, name).required(true).help(help)
+}
+
+fn area_argument<'a>(alloc: Global) -> Arg<'a> {
+    Arg::new(alloc, "AREA")
         .required(true)
         .value_parser(ValueParser::unsigned(MIN_AREA, MAX_AREA))
-        .help("The length of each of the two areas, 4096 to 1073741824 bytes");
+        .help("The length of each of the two areas, 4096 to 1073741824 bytes")
+}
+
+/// `acts init FILE AREA`.
+pub(crate) fn init_command<'a>(alloc: Global) -> Made<'a> {
+    let file = path_argument(
+        alloc,
+        "FILE",
+        "The file to create; if it exists, it has to be empty",
+    );
     let init = Command::new(alloc, "init").about(
         "Makes an empty store of two areas of AREA bytes in FILE, which is created if it does not exist",
     );
-    with_arg(with_arg(Ok(init), Ok(file)), Ok(area))
+    with_arg(with_arg(Ok(init), Ok(file)), Ok(area_argument(alloc)))
+}
+
+/// `acts grow FILE NEW AREA`.
+pub(crate) fn grow_command<'a>(alloc: Global) -> Made<'a> {
+    let file = path_argument(
+        alloc,
+        "FILE",
+        "The file of the store, which is only read, and which no server may use meanwhile",
+    );
+    let new = path_argument(alloc, "NEW", "The file to create, which must not exist");
+    let grow = Command::new(alloc, "grow").about(
+        "Copies the store in FILE, with all that it holds, into NEW, a new file of two areas of AREA bytes",
+    );
+    let grow = with_arg(with_arg(Ok(grow), Ok(file)), Ok(new));
+    with_arg(grow, Ok(area_argument(alloc)))
 }
 
 /// The length of each area that the command line asks for.
 pub(crate) fn area_of(matches: &ArgMatches<'_>) -> Option<AreaLength> {
     AreaLength::of(matches.get_one::<u64>("AREA")?)
+}
+
+/// The growth that the command line asks for.
+pub(crate) fn growth_of<'a>(matches: &ArgMatches<'a>) -> Option<Growth<'a>> {
+    Some(Growth {
+        file: matches.get_str("FILE")?,
+        new: matches.get_str("NEW")?,
+        area: area_of(matches)?,
+    })
 }

@@ -8,5 +8,5 @@ mod streams;
 
 pub use failure::{Failure, ended, status_of};
 pub use reading::{check, explain, lint, play, print_message};
-pub use storing::{init, show};
+pub use storing::{grow, init, show};
 pub use streams::output;

@@ -1,9 +1,10 @@
-//! Makes a store in a file, and shows one: `acts init`, `acts show`, `acts runners` and `acts queue`.
+//! Makes a store in a file, copies one into a larger file, and shows one: `acts init`, `acts grow`, `acts show`, `acts runners` and `acts queue`.
 
 use crate::failure::{Failure, ended};
 use crate::streams::output;
 use act_disk::Start;
-use command_words::{AreaLength, Shown as Asked, View};
+use act_store::Store;
+use command_words::{AreaLength, Growth, Shown as Asked, View};
 use process_io::HeldStreams;
 use program_commands::{Form, Shown, run_init, run_show};
 use run_plan::Number;
@@ -11,6 +12,7 @@ use std::fs::{File, Files};
 use std::sync::Wait;
 use std::thread::Threads;
 use std::time::Clock;
+use store_copies::check_area;
 
 /// Makes a store in a file, which is created if it does not exist. No other server may use it.
 pub fn init<
@@ -24,6 +26,28 @@ pub fn init<
     let mut out = output(rt)?;
     let made = run_init(rt.alloc(), disk, area.bytes, &mut out).1;
     ended(made, out.into_fault(), None)
+}
+
+/// Copies the store in a file into a new one, whose areas have another length. No other server may use either. The new file is made once
+/// it is known that the table fits.
+pub fn grow<
+    'a,
+    B: Start,
+    R: Print + Files<File = File> + AllocGlobal,
+    S: Threads + Wait + Clock + Eprint + Sync,
+>(rt: &R, system: &S, growth: &Growth<'a>) -> Result<(), Failure<'a>> {
+    let streams = HeldStreams::hold(rt)?;
+    let disk = streams.open_for_copying::<B, R, S>(rt, system, growth.file)?;
+    let store = match Store::open(rt.alloc(), disk) {
+        Ok(store) => store,
+        Err((_, refusal)) => return Err(Failure::from(refusal)),
+    };
+    let area = growth.area.bytes;
+    check_area(&store, area)?;
+    let mut out = output(rt)?;
+    let new = streams.make_for_server(rt, system, growth.new, 2 * area)?;
+    let grown = store_copies::grow(rt.alloc(), &store, new, area, &mut out).1;
+    ended(grown, out.into_fault(), None)
 }
 
 /// What is asked for, as the store's views know it.

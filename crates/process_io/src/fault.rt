@@ -11,6 +11,8 @@ pub enum ResourceFault<'a> {
     File(&'a str, io::Error),
     /// Another process has the lock of this file.
     Locked(&'a str),
+    /// A file that is to be made is there already.
+    Exists(&'a str),
     /// The length of this file is not known.
     Unmeasured(&'a str),
     /// This file is longer than the system lets this process write.
@@ -21,12 +23,13 @@ pub enum ResourceFault<'a> {
 }
 
 impl ResourceFault<'_> {
-    /// The refusal: 51 for a file that is too long, and else 61.
+    /// The refusal: 51 for a file that is too long, 55 for one that is there already, and else 61.
     pub fn refusal(&self) -> Refusal
         ensures { result ≡ Refusal.Numbered (code_of_fault self.now) }
     {
         Refusal::Numbered(match self {
             ResourceFault::TooLong(_) => Code::DeviceFailed,
+            ResourceFault::Exists(_) => Code::DiskNotEmpty,
             _ => Code::StreamFailed,
         })
     }
@@ -37,6 +40,7 @@ impl fmt::Display for ResourceFault<'_> {
         match self {
             ResourceFault::File(path, error) => write!(f, "{path}: {error}"),
             ResourceFault::Locked(path) => write!(f, "{path}: another process has its lock"),
+            ResourceFault::Exists(path) => write!(f, "{path}: it exists already"),
             ResourceFault::Unmeasured(path) => write!(f, "{path}: its length is not known"),
             ResourceFault::TooLong(path) => {
                 write!(f, "{path}: longer than this process may write (ulimit -f)")

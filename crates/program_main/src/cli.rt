@@ -3,7 +3,9 @@
 use crate::serving::serve;
 use act_disk::Start;
 use command_words::{Request, not_text, numbers, parse};
-use local_commands::{Failure, check, explain, init, lint, play, print_message, show, status_of};
+use local_commands::{
+    Failure, check, explain, grow, init, lint, play, print_message, show, status_of,
+};
 use std::fs::{File, Files};
 use std::net::{Net, TcpListener, TcpStream};
 use std::process::ExitCode;
@@ -30,6 +32,7 @@ fn perform<
         Request::Check => check(rt)?,
         Request::Lint => return lint(rt),
         Request::Init(file, area) => init::<B, R, S>(rt, system, file, &area)?,
+        Request::Grow(growth) => grow::<B, R, S>(rt, system, &growth)?,
         Request::Show(view) => show::<B, R>(rt, &view)?,
         Request::Serve(serving) => serve::<B, R, S>(rt, system, &serving)?,
         Request::Explain(explanation) => explain(rt, explanation)?,

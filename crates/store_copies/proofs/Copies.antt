@@ -58,7 +58,7 @@ first_is_active area rest second zeros =
 
 -- ---- the table
 
-means_copy : (t : TableState) (text : List ℕ) → EncodesTable layouts.Second t text → MeansTable (copy_head text) [] t
+pub means_copy : (t : TableState) (text : List ℕ) → EncodesTable layouts.Second t text → MeansTable (copy_head text) [] t
 means_copy t text encodes = record {
   layout = layouts.Second;
   layout_is = refl;

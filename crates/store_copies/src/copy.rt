@@ -1,11 +1,12 @@
-ghost use Rattle.std.specs.Prelude.{◌≡◌, ◌+◌, ◌<◌, ◌≤◌, IfOk, IfSome, OnOk, is_some, length, true};
+ghost use Rattle.std.specs.Prelude.{◌≡◌, ◌+◌, ◌<◌, ◌≤◌, ◌∷◌, IfOk, IfSome, OnOk, is_some, length, true};
+ghost use Rattle.definitions.specs.Area.{head_bytes};
 ghost use Rattle.table_model.specs.Sound.{IsSound};
 ghost use Rattle.table_text.specs.Tables.{whole_table};
 ghost use Rattle.wf_value.specs.Gives.{ErrsOnlyByMemory};
 ghost use Rattle.act_store.specs.Images.{IsAreaLength, RecoversTo};
 ghost use Rattle.act_store.specs.Layouts.{EncodesTable};
 ghost use Rattle.act_store.specs.declared.layout.Layout.TheVariants as layouts;
-ghost use Rattle.store_copies.specs.Copies.{copy_bytes, copy_front, file_of, fits};
+ghost use Rattle.store_copies.specs.Copies.{copy_bytes, copy_head, file_of, fits};
 
 use act_store::{MAX_AREA, MIN_AREA};
 use gated_journal::OPEN;
@@ -23,7 +24,7 @@ const VERSION: u8 = 2;
 const GENERATION: u64 = 1;
 
 /// Whether the text of a table fits an area of this length, with a head, its own gate and one for the first record.
-fn fits(area: u64, table: &Table) -> bool
+pub(crate) fn fits(area: u64, table: &Table) -> bool
     ensures sound { IsSound table.now }
     ensures exact { result ≡ fits area table.now }
     ensures few { result ≡ true → length table.now.runners ≤ 4294967295 }
@@ -36,17 +37,17 @@ fn fits(area: u64, table: &Table) -> bool
     area >= MIN_AREA && area <= MAX_AREA && table_length(table) <= area - (GATE + HEAD + GATE)
 }
 
-/// The bytes up to the end of the table's text.
+/// The bytes of an area with this gate, up to the end of the table's text.
 #[tactic(auto, using(crate::proofs::Encoding::table_encodes))]
-fn front(alloc: Global, table: &Table) -> Result<Vec<u8>, Refusal>
+pub(crate) fn front(alloc: Global, gate: u8, table: &Table) -> Result<Vec<u8>, Refusal>
     requires few { length table.now.runners ≤ 4294967295 }
     requires sound { IsSound table.now }
     ensures err { ErrsOnlyByMemory result }
-    ensures bytes { IfOk result (λ bytes. bytes.items ≡ copy_front (whole_table.encoding table.now)) }
+    ensures bytes { IfOk result (λ bytes. bytes.items ≡ gate ∷ head_bytes (copy_head (whole_table.encoding table.now))) }
     ensures encodes { OnOk result (EncodesTable layouts.Second table.now (whole_table.encoding table.now)) }
 {
     let text = table_length(table);
-    let mut bytes = vec![in alloc; OPEN; 1]?;
+    let mut bytes = vec![in alloc; gate; 1]?;
     bytes.push(VERSION)?;
     bytes.extend_from_slice(&GENERATION.to_be_bytes())?;
     bytes.extend_from_slice(&text.to_be_bytes())?;
@@ -71,7 +72,7 @@ pub fn copy_of(alloc: Global, area: u64, table: &Table) -> Result<Option<FileByt
     if !fits(area, table) {
         return Ok(None);
     }
-    let bytes = front(alloc, table)?;
+    let bytes = front(alloc, OPEN, table)?;
     let zeros = area + area - bytes.len() as u64;
     Ok(Some(FileBytes { bytes, zeros }))
 }

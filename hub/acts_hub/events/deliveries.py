@@ -195,6 +195,7 @@ class Handler:
         except Away as fault:
             raise NotNow(str(fault)) from None
         if reply.run is not None:
+            self.room.note(len(sent.body))
             outcome.runs[path] = reply.run
             outcome.lines.append(f'{path}: created {reply.run}')
         elif reply.status in NEVER_AGAIN or reply.refusal in FULL and self.is_old(delivery):

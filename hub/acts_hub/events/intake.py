@@ -103,10 +103,16 @@ class Events:
         while True:
             try:
                 await self.take_up()
+                await self.look_for_room()
                 await asyncio.to_thread(self.spool.forget, 86400 * self.settings.aside_days)
             except OSError as fault:
                 say(f'events: the spool: {fault}')
             await asyncio.sleep(min(self.settings.pause, 5))
+
+    async def look_for_room(self) -> None:
+        """While events are held back, looks whether there is room again: then they go on at once."""
+        if self.room.reason is not None and await self.room.held() is None:
+            self.queues.wake()
 
     async def take_up(self) -> None:
         """Adds to the queues what is in the spool alone."""

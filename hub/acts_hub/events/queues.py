@@ -29,6 +29,11 @@ class Queues:
         if repository not in self.tasks:
             self.tasks[repository] = asyncio.create_task(self.work(repository), name=f'events of {repository}')
 
+    def wake(self) -> None:
+        """Lets what rests be tried again at once."""
+        for wake in self.wakes.values():
+            wake.set()
+
     def names(self) -> set[str]:
         """The names of all that wait."""
         return {name for names in self.queues.values() for name in names}

@@ -9,13 +9,14 @@ from ..service.view import ViewPort
 
 METRIC = re.compile(r'^(acts_area_bytes|acts_area_room_bytes) ([0-9]+)$', re.M)
 SECONDS = 2.0  # for which a look counts: a scrape looks at every run
+BESIDE = 200  # bytes that an event takes there beside its body, about
 
 
-def full_of(metrics: str) -> float:
-    """What part of the area is taken, by the service's metrics; 0 if they do not say."""
+def full_of(metrics: str, admitted: int = 0) -> float:
+    """What part of the area is taken, by the service's metrics and the bytes that were admitted since; 0 if they do not say."""
     found = {name: int(value) for name, value in METRIC.findall(metrics)}
     area, room = found.get('acts_area_bytes', 0), found.get('acts_area_room_bytes')
-    return 0.0 if not area or room is None else max(0.0, 1 - room / area)
+    return 0.0 if not area or room is None else min(1.0, max(0.0, 1 - (room - admitted) / area))
 
 
 class Room:
@@ -23,17 +24,27 @@ class Room:
 
     def __init__(self, view: ViewPort, most: float) -> None:
         self.view, self.most = view, most
-        self.full, self.looked = 0.0, float('-inf')
+        self.metrics, self.admitted, self.looked = '', 0, float('-inf')
 
     async def look(self) -> None:
         """Looks again, if the last look is too old. A service that is away is not full."""
         if time.monotonic() < self.looked + SECONDS:
             return
+        self.admitted = 0  # what comes from here on may not be in the metrics
         try:
-            self.full = full_of(await self.view.metrics())
+            self.metrics = await self.view.metrics()
         except Away:
-            self.full = 0.0
+            self.metrics = ''
         self.looked = time.monotonic()
+
+    def note(self, size: int) -> None:
+        """Counts an event with a body of so many bytes, which was admitted after the last look."""
+        self.admitted += size + BESIDE
+
+    @property
+    def full(self) -> float:
+        """What part of the area is taken."""
+        return full_of(self.metrics, self.admitted)
 
     @property
     def reason(self) -> str | None:
@@ -41,7 +52,7 @@ class Room:
         if self.full <= self.most:
             return None
         return (f'the file of the service is {self.full:.0%} full: over {self.most:.0%} new events wait, so that runs '
-                'that go on keep their room; forget old runs, or make a store with larger areas')
+                'that go on keep their room; acts grow copies the store into a larger file')
 
     async def held(self) -> str | None:
         """Why an event waits now; None if it does not."""
