@@ -168,7 +168,7 @@ def test_a_restart_of_the_hub_loses_nothing_that_the_service_can_still_say(servi
             work(lines)
             await seen.until(mirror, lambda: is_seen_ended(mirror, first))
             before, leg = mirror.runs[first], legs(await mirror.whole(first))['build', 0]
-        while_away = service.admit()
+        while_away, began = service.admit(), now()
         lease = work(lines, 'failure')
         assert service.post(f'/runs/{while_away}/attempts/2').status == 201
         async with seen.mirror() as mirror:
@@ -179,7 +179,8 @@ def test_a_restart_of_the_hub_loses_nothing_that_the_service_can_still_say(servi
             assert missed is not None and missed.row.conclusion == 'failure'
             found = legs(missed)['build', 0]
             assert (found.state, found.runner, found.lease) == ('failure', 'r1', int(lease[1]))
-            assert (found.started_at, found.ended_at) == (None, None)          # nobody saw when
+            assert found.started_at is not None and found.ended_at is not None  # the service's changes have their times
+            assert began <= found.started_at <= found.ended_at <= now()
             assert mirror.runs[while_away].completed_at is None
         assert seen.dropped == []
     play(test())
@@ -280,7 +281,7 @@ def test_another_body_under_the_same_delivery_is_another_run_also_after_both_wer
             await seen.until(mirror, lambda: mirror.runs[run].facts.title == 'Second store' and seen.dropped == [run])
             await seen.until(mirror, lambda: is_ended(mirror, run))
             found = legs(await mirror.whole(run))['build', 0]
-            assert (found.runner, found.started_at, found.ended_at) == (None, None, None)       # it had ended before anybody looked
+            assert (found.runner, found.started_at, found.ended_at) == ('r1', None, None)       # it had ended before anybody looked
     play(test())
 
 
