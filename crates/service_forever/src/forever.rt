@@ -296,6 +296,9 @@ pub fn serve_forever<D: Disk + Drop, R: Wait + Clock + Net, O: Write>(
     let mut watch = Watch::new(rt, alloc)?;
     let clients = watch.clients(alloc, ports.hooks, ports.runners)?;
     let views = watch.views(rt, alloc, ports.views, now, store.table())?;
-    let mut turns = Box::new(alloc, first_turn(alloc, now, limits, store, clients, views)?)?;
+    let mut turns = Box::new(
+        alloc,
+        first_turn(alloc, now, limits, store, clients, views)?,
+    )?;
     serve(rt, &mut watch, &mut turns, out)
 }
