@@ -1,5 +1,6 @@
 """What the sweeps over `acts serve` share: a service in a process of its own, its clients, and a plain play of runs of one job."""
 
+import collections
 import os
 import random
 import re
@@ -19,23 +20,27 @@ class Ended(Exception):
     """The other side ended the stream."""
 
 
+given_last = collections.deque(maxlen=1000)
+
+
 def free_port():
-    """A free port of this machine, below those that the system gives to clients, since a client could take it meanwhile."""
+    """A free port of this machine, and not one that was given here lately. It is below those that the system gives to clients, since a client could
+    take it meanwhile."""
     while True:
+        port = random.SystemRandom().randrange(10_000, 32_000)
         with socket.socket() as it:
             try:
-                it.bind(('127.0.0.1', random.SystemRandom().randrange(10_000, 32_000)))
-                return it.getsockname()[1]
+                it.bind(('127.0.0.1', port))
             except OSError:
-                pass
+                continue
+        if port not in given_last:
+            given_last.append(port)
+            return port
 
 
 def free_ports():
     """Two of them."""
-    one = free_port()
-    while (other := free_port()) == one:
-        pass
-    return one, other
+    return free_port(), free_port()
 
 
 def init(acts, path, area):

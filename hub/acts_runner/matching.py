@@ -9,7 +9,7 @@ import sys
 from collections.abc import Iterable, Sequence
 from typing import Any
 
-SECONDS = 1.0  # that a pattern may take for a line
+SECONDS = 1.0  # of a processor that a pattern may take for a line
 TRIES = 3
 GROUPS = 'file', 'fromPath', 'line', 'column', 'severity', 'code', 'message'
 SEVERITIES = 'error', 'warning', 'notice'
@@ -107,12 +107,12 @@ class Matching:
         """What a matcher finds. One that is too slow is removed."""
         for _ in range(TRIES):
             try:
-                signal.setitimer(signal.ITIMER_REAL, SECONDS)
+                signal.setitimer(signal.ITIMER_VIRTUAL, SECONDS)
                 return matcher.problem(line)
             except TooSlow:
                 continue
             finally:
-                signal.setitimer(signal.ITIMER_REAL, 0)
+                signal.setitimer(signal.ITIMER_VIRTUAL, 0)
         del self.matchers[owner]
         self.slow.append(owner)
         return None
@@ -125,7 +125,7 @@ def stop(*_: Any) -> None:
 
 def main() -> None:
     """Answers orders until there are no more."""
-    signal.signal(signal.SIGALRM, stop)
+    signal.signal(signal.SIGVTALRM, stop)
     matching = Matching()
     for line in sys.stdin.buffer:
         answer = matching.obey(json.loads(line))

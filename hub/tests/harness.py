@@ -2,10 +2,13 @@
 from __future__ import annotations
 
 import contextlib
+import functools
 import http.client
+import itertools
 import json
 import os
 import pathlib
+import random
 import signal
 import socket
 import ssl
@@ -13,13 +16,14 @@ import subprocess
 import sys
 import time
 import uuid
-from collections.abc import Callable, Mapping
+from collections.abc import Callable, Iterator, Mapping
 from dataclasses import dataclass, field
 from typing import Any, TypeVar
 
 HUB = pathlib.Path(__file__).resolve().parent.parent
 PYTHON = '/usr/bin/python3'
-SECONDS = 60
+SECONDS = 180  # that something is waited for at most: a machine may be busy
+FIRST_PORT, PORTS_OF_BLOCK, BLOCKS = 10_000, 200, 110  # below the ports that the system gives to clients, since a client could take one meanwhile
 sys.path.insert(0, str(HUB))
 
 Made = TypeVar('Made')
@@ -33,13 +37,28 @@ def acts() -> str:
     return path
 
 
+@functools.cache
+def block_of_ports() -> tuple[socket.socket, Iterator[int]]:
+    """The ports of this process, round and round, and what keeps other processes of tests from them until it ends."""
+    held = socket.socket(socket.AF_UNIX)
+    for number in random.sample(range(BLOCKS), BLOCKS):
+        with contextlib.suppress(OSError):
+            held.bind(f'\0acts-ports-of-tests-{number}')
+            first = FIRST_PORT + number * PORTS_OF_BLOCK
+            return held, itertools.cycle(range(first, first + PORTS_OF_BLOCK))
+    raise AssertionError(f'{BLOCKS} processes of tests have all ports')
+
+
 def free_ports(count: int) -> list[int]:
-    """Ports of loopback that nobody has."""
-    with contextlib.ExitStack() as stack:
-        sockets = [stack.enter_context(socket.socket()) for _ in range(count)]
-        for one in sockets:
-            one.bind(('127.0.0.1', 0))
-        return [one.getsockname()[1] for one in sockets]
+    """Ports of loopback that nobody has, and that no other test is given while this process runs."""
+    found: list[int] = []
+    for port in itertools.islice(block_of_ports()[1], PORTS_OF_BLOCK):
+        with socket.socket() as one, contextlib.suppress(OSError):
+            one.bind(('127.0.0.1', port))
+            found.append(port)
+        if len(found) == count:
+            return found
+    raise AssertionError(f'there are no {count} free ports')
 
 
 def until(test: Callable[[], Made], seconds: float = SECONDS, what: str = '') -> Made:
@@ -78,7 +97,7 @@ class Answer:
 class UnixConnection(http.client.HTTPConnection):
     """A connection to a socket of the file system."""
 
-    def __init__(self, path: pathlib.Path, timeout: float = 30) -> None:
+    def __init__(self, path: pathlib.Path, timeout: float = 60) -> None:
         super().__init__('localhost', timeout=timeout)
         self.path = path
 
@@ -89,7 +108,7 @@ class UnixConnection(http.client.HTTPConnection):
 
 
 def request(address: int | pathlib.Path, method: str, path: str, body: bytes | str | None = None, headers: Mapping[str, str] | None = None,
-            context: ssl.SSLContext | None = None, timeout: float = 30) -> Answer:
+            context: ssl.SSLContext | None = None, timeout: float = 60) -> Answer:
     """One request to a port of loopback, or a socket of the file system; redirections are not followed."""
     connection: http.client.HTTPConnection
     if isinstance(address, pathlib.Path):
@@ -228,7 +247,7 @@ class RunnerLines:
     """A runner by hand: lines over one stream."""
 
     def __init__(self, port: int) -> None:
-        self._socket = socket.create_connection(('127.0.0.1', port), 30)
+        self._socket = socket.create_connection(('127.0.0.1', port), 60)
         self._file = self._socket.makefile('rwb')
         self.numbers: dict[str, int] = {}
 
@@ -367,17 +386,22 @@ class HubProcess:
         """Makes a token, as `acts-hub token create` does."""
         from acts_hub.access.identity import Right
         from acts_hub.access.tokens import Tokens
-        from acts_hub.ledger.database import Database
+        from acts_hub.ledger.database import Database, LedgerError
         self.state.mkdir(mode=0o700, parents=True, exist_ok=True)
         database = Database(self.state / 'ledger.sqlite')
         database.open()
+
+        def made() -> str | None:
+            with contextlib.suppress(LedgerError):  # a disk that is busy
+                return Tokens(database).create(name, Right(kind), repositories, prefix, labels)
+            return None
         try:
-            return Tokens(database).create(name, Right(kind), repositories, prefix, labels)
+            return until(made, what=f'the token {name}')  # type: ignore[return-value]
         finally:
             database.close()
 
     def request(self, method: str, path: str, body: bytes | str | None = None, token: str | None = None, headers: Mapping[str, str] | None = None,
-                timeout: float = 30) -> Answer:
+                timeout: float = 60) -> Answer:
         """One request, with a token as `Authorization: Bearer`."""
         given = {**({'Authorization': f'Bearer {token}'} if token else {}), **(headers or {})}
         return request(self.port, method, path, body, given, self.context, timeout)

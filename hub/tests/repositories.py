@@ -11,7 +11,7 @@ import uuid
 from collections.abc import Mapping
 from typing import Any
 
-from harness import Answer, HubProcess
+from harness import SECONDS, Answer, HubProcess
 
 SECRET = b"It's a Secret to Everybody"  # of GitHub Docs, "Validating webhook deliveries"
 ZERO = 40 * '0'
@@ -79,7 +79,7 @@ class Sender:
         headers = {'X-GitHub-Event': event, 'X-GitHub-Delivery': delivery or str(uuid.uuid4()), 'Content-Type': 'application/json'}
         if signature is not None:
             headers['X-Hub-Signature-256'] = signature
-        return self.hub.request('POST', '/webhooks/github', body, headers=headers, timeout=60)
+        return self.hub.request('POST', '/webhooks/github', body, headers=headers, timeout=SECONDS + 60)
 
     def signed(self, body: bytes) -> str:
         """The signature of a body."""
@@ -105,7 +105,7 @@ def tables(folder: pathlib.Path, mirrors: pathlib.Path, names: Mapping[str, Mapp
     lines = ''.join(f'[[repository]]\n' + ''.join(f'{key} = {toml(value)}\n' for key, value in
                                                   {'name': name, 'secret_file': str(folder / 'secret'), **given}.items())
                     for name, given in names.items())
-    return {'events': {'mirrors': str(mirrors), 'wait': 30, 'pause': 1, **more}}, lines
+    return {'events': {'mirrors': str(mirrors), 'wait': SECONDS, 'pause': 1, **more}}, lines
 
 
 def toml(value: Any) -> str:

@@ -243,12 +243,12 @@ def standing(folder: pathlib.Path, access: AccessConfig = UNLIMITED) -> Iterator
     ended = asyncio.Event()
     thread = threading.Thread(target=lambda: loop.run_until_complete(serve(ended)), daemon=True)
     thread.start()
-    assert ready.wait(20)
+    assert ready.wait(180)
     try:
         yield stand
     finally:
         loop.call_soon_threadsafe(ended.set)
-        thread.join(20)
+        thread.join(180)
         hub.database.close()
 
 

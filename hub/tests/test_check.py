@@ -31,7 +31,7 @@ def check(tmp_path: pathlib.Path) -> Check:
     def run(text: str, *words: str) -> tuple[int, list[str]]:
         (folder / '.github/workflows/ci.yml').write_text(text)
         done = subprocess.run([PYTHON, '-m', 'acts_hub', 'check', str(folder / '.github/workflows/ci.yml'), '--program', acts(), *words],
-                              env={**os.environ, 'PYTHONPATH': str(HUB)}, capture_output=True, text=True, timeout=120)
+                              env={**os.environ, 'PYTHONPATH': str(HUB)}, capture_output=True, text=True, timeout=180)
         return done.returncode, (done.stdout + done.stderr).replace('.github/workflows/ci.yml', 'ci.yml').splitlines()
     return run
 

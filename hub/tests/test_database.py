@@ -32,6 +32,16 @@ def value(one: Database, name: str) -> str | None:
     return rows[0][0] if rows else None
 
 
+def say_late(one: Database, monkeypatch: pytest.MonkeyPatch) -> None:
+    """What is said of the file from now on takes a while: whoever looks too early sees what was said before."""
+    said = one._say
+
+    def said_late(fault: str | None) -> None:
+        time.sleep(0.2)
+        said(fault)
+    monkeypatch.setattr(one, '_say', said_late)
+
+
 @pytest.mark.quick
 def test_what_is_written_is_read_again(made: Database) -> None:
     for number in range(2000):
@@ -60,9 +70,8 @@ def test_a_lock_of_another_holds_up_nobody(made: Database) -> None:
     assert made.flushed()
     with contextlib.closing(sqlite3.connect(made.path, isolation_level=None)) as other:
         other.execute('begin immediate')
-        began = time.monotonic()
         made.write(ADD, ('while', '1'))
-        assert value(made, 'before') == '1' and time.monotonic() - began < 0.5
+        assert value(made, 'before') == '1' and made.waiting == 1                                   # it is neither waited for nor lost
         until(lambda: made.fault is not None and 'locked' in made.fault)
         with pytest.raises(LedgerError, match='locked'):
             made.write_now([(ADD, ('now', '1'))], 0.2)
@@ -72,17 +81,11 @@ def test_a_lock_of_another_holds_up_nobody(made: Database) -> None:
 
 @pytest.mark.quick
 def test_once_a_write_is_in_the_file_no_fault_is_left(made: Database, monkeypatch: pytest.MonkeyPatch) -> None:
-    said = made._say
-
-    def said_late(fault: str | None) -> None:
-        time.sleep(0.2)
-        said(fault)
-
     with contextlib.closing(sqlite3.connect(made.path, isolation_level=None)) as other:
         other.execute('begin immediate')
         made.write(ADD, ('while', '1'))
         until(lambda: made.fault is not None)
-        monkeypatch.setattr(made, '_say', said_late)
+        say_late(made, monkeypatch)
         other.execute('rollback')
     assert made.flushed() and made.fault is None
 
@@ -111,10 +114,11 @@ def test_a_file_that_is_locked_at_the_start_is_waited_for_and_then_done_without(
 
 
 @pytest.mark.quick
-def test_a_file_that_comes_later_is_opened_without_a_write(tmp_path: pathlib.Path) -> None:
+def test_a_file_that_comes_later_is_opened_without_a_write(tmp_path: pathlib.Path, monkeypatch: pytest.MonkeyPatch) -> None:
     one = Database(tmp_path / 'nowhere' / 'ledger.sqlite')
     one.open()
     assert not one.is_file
+    say_late(one, monkeypatch)
     (tmp_path / 'nowhere').mkdir()
     until(lambda: one.is_file)
     assert one.fault is None and value(one, 'tokens') == '0'

@@ -17,7 +17,7 @@ from collections.abc import Callable, Iterator
 from pathlib import Path
 
 import pytest
-from harness import HubProcess, Service
+from harness import HubProcess, Service, free_ports
 
 from acts_hub.config import ConfigError, config_of
 from acts_hub.doors import namespace
@@ -25,7 +25,8 @@ from acts_hub.doors.exposure import check_exposure, exposed
 from acts_hub.doors.run import NoDoors, ports_of
 
 HUB = Path(__file__).resolve().parent.parent
-PORTS = ('--hook-port', '8080', '--runner-port', '8081', '--view-port', '8083')
+HOOK, RUNNER, VIEW = map(str, free_ports(3))
+PORTS = ('--hook-port', HOOK, '--runner-port', RUNNER, '--view-port', VIEW)
 
 # What stands behind the doors: `hook` answers what came, once it has ended; `runner` counts it, once the file `read` is there; `view` speaks first, closes
 # its half, and keeps what it hears. `flood` writes to a client for a second, whether it reads or not, and then resets the connection.
@@ -98,12 +99,12 @@ class Behind:
     def end(self, number: int = signal.SIGTERM) -> int:
         if self.process.poll() is None:
             self.process.send_signal(number)
-        self.process.communicate(timeout=20)
+        self.process.communicate(timeout=180)
         return self.process.returncode
 
     def words(self) -> tuple[int, str]:
         """How it ended by itself, and what it said."""
-        _, said = self.process.communicate(timeout=20)
+        _, said = self.process.communicate(timeout=180)
         return self.process.returncode, said
 
 
@@ -136,7 +137,7 @@ def whole(stream: socket.socket) -> bytes:
     return b''.join(iter(lambda: stream.recv(65536), b''))
 
 
-def wait_for(what: str, is_so: Callable[[], bool], seconds: float = 20) -> None:
+def wait_for(what: str, is_so: Callable[[], bool], seconds: float = 180) -> None:
     end = time.monotonic() + seconds
     while not is_so():
         assert time.monotonic() < end, f'waited {seconds} s for {what}'
@@ -230,7 +231,7 @@ def test_an_ordinary_user_has_doors_too(place: Path) -> None:
     try:
         assert behind.exchange('hook', b'x') == b'x'  # as root, who may open each socket
         with pytest.raises(ConnectionRefusedError):
-            socket.create_connection(('127.0.0.1', 8080), timeout=5)
+            socket.create_connection(('127.0.0.1', int(HOOK)), timeout=5)
         assert (behind.folder / 'hook').stat().st_uid == pwd.getpwnam('nobody').pw_uid
     finally:
         behind.end()
@@ -266,7 +267,7 @@ def test_bytes_in_flight_are_bounded(behind: Behind, place: Path) -> None:
         kilobytes = Path(f'/proc/{behind.process.pid}/status').read_text().split('VmRSS:')[1].split()[0]
         assert int(kilobytes) < 100_000
         (place / 'read').touch()
-        stream.settimeout(20)
+        stream.settimeout(180)
         stream.shutdown(socket.SHUT_WR)
         assert whole(stream) == b'%d' % sent
 
@@ -284,7 +285,7 @@ def test_clients_are_bounded(place: Path) -> None:
             with pytest.raises(TimeoutError):
                 waiting.recv(1)
             held.pop().close()
-            waiting.settimeout(20)
+            waiting.settimeout(180)
             assert whole(waiting) == b'x'
         for stream in held:
             stream.close()
@@ -370,9 +371,9 @@ def test_no_namespace_is_said(place: Path) -> None:
     words = [sys.executable, '-c', script, 'doors', '--folder', str(place / 'doors')]
     reason = ('acts-hub doors: no network namespace for the service (unshare: Invalid argument; with a user namespace: Invalid argument), '
               'so every program of this machine can use its ports')
-    done = subprocess.run([*words, '--', 'true', *PORTS], cwd=HUB, capture_output=True, text=True, timeout=60)
+    done = subprocess.run([*words, '--', 'true', *PORTS], cwd=HUB, capture_output=True, text=True, timeout=180)
     assert (done.returncode, done.stderr) == (1, f'{reason}; with --open-loopback it starts nevertheless\n')
-    done = subprocess.run([*words, '--open-loopback', '--', 'true', *PORTS], cwd=HUB, capture_output=True, text=True, timeout=60)
+    done = subprocess.run([*words, '--open-loopback', '--', 'true', *PORTS], cwd=HUB, capture_output=True, text=True, timeout=180)
     assert (done.returncode, done.stderr) == (0, f'{reason}\n')
 
 

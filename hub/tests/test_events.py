@@ -129,7 +129,7 @@ def test_what_is_no_payload(place: Place) -> None:
 def test_a_payload_that_is_too_long_is_not_read(place: Place) -> None:
     import socket
     for head in f'Content-Length: {26 << 20}', 'Content-Length: 99999999999', 'Transfer-Encoding: chunked', 'Content-Length: -1':
-        with socket.create_connection(('127.0.0.1', place.hub.port), 30) as stream:
+        with socket.create_connection(('127.0.0.1', place.hub.port), 180) as stream:
             stream.sendall(f'POST /webhooks/github HTTP/1.1\r\nHost: x\r\nX-GitHub-Event: push\r\n{head}\r\n\r\n'.encode())
             assert stream.recv(100).split()[1] in (b'413', b'400'), head
 
@@ -141,7 +141,7 @@ def test_clients_that_announce_much_and_send_nothing_hold_up_no_delivery(place: 
     pushed = place.repository.only({'one.yml': ONE})
     with contextlib.ExitStack() as stack:
         for _ in range(50):
-            stream = stack.enter_context(socket.create_connection(('127.0.0.1', place.hub.port), 30))
+            stream = stack.enter_context(socket.create_connection(('127.0.0.1', place.hub.port), 180))
             stream.sendall(f'POST /webhooks/github HTTP/1.1\r\nHost: x\r\nX-GitHub-Event: push\r\nContent-Length: {25 << 20}\r\n\r\n['.encode())
         time.sleep(0.5)
         assert list(created(place.sender.push(pushed))) == ['one.yml']
@@ -259,11 +259,12 @@ jobs:
     assert lines[1].startswith('one.yml: created ')
     assert lines[2].startswith("outside.yml:7: refused 26: jobs.b.if: needs.a.result == 'success' Write always()")
     assert lines[0].startswith('broken.yml:2: not sent: not YAML')
-    until(lambda: len(place.refused()) >= 2, what='the ledger')
-    found = {path: rest for event, path, *rest in place.refused()[:2]}
-    code, line, words, advice = found['.github/workflows/outside.yml']
+    def found() -> dict[str, list[Any]]:
+        return {path: rest for event, path, *rest in place.refused()}
+    until(lambda: {f'.github/workflows/{name}.yml' for name in ('outside', 'broken')} <= found().keys(), what='the ledger')
+    code, line, words, advice = found()['.github/workflows/outside.yml']
     assert (code, line, words) == (26, 7, "refused 26: jobs.b.if: needs.a.result == 'success'") and 'the `if` of its steps' in advice
-    assert found['.github/workflows/broken.yml'][1] == 2
+    assert found()['.github/workflows/broken.yml'][1] == 2
     assert place.hub.get('/healthz').status == 200
 
 
@@ -321,7 +322,7 @@ def test_variables_are_read_again_and_wait_till_they_are_whole(place: Place) -> 
     waiting.start()
     until(lambda: 'is tried again: the variables:' in (place.hub.process.said() if place.hub.process else ''), what='another try')
     (place.folder / 'vars').write_text('{"octo/hello": {"LABEL": "linux"}}')
-    waiting.join(30)
+    waiting.join()
     assert list(created(answers[0])) == ['ci.yml']
 
 

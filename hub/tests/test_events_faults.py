@@ -113,7 +113,7 @@ def test_a_full_store_holds_events_back_and_says_so(tmp_path: pathlib.Path) -> N
 
 
 def test_an_event_that_does_not_fit_is_refused_after_a_while_and_holds_up_no_other_repository(tmp_path: pathlib.Path) -> None:
-    place = Place(tmp_path, wait=20, pause=0.5, full_limit=2, held_over=1.0)
+    place = Place(tmp_path, pause=0.5, full_limit=2, held_over=1.0)
     place.service.area = 12288
     long = '{on: push, jobs: {one: {runs-on: linux, steps: [{run: "true ' + 20000 * 'x' + '"}]}}}'
     try:
@@ -124,7 +124,7 @@ def test_an_event_that_does_not_fit_is_refused_after_a_while_and_holds_up_no_oth
         waiting.start()
         until(lambda: 'is tried again: the service answers 503, refused 47' in (place.hub.process.said() if place.hub.process else ''))
         assert created(place.of_other.push(place.other.only({'one.yml': ONE}))) == {'one.yml': 1}
-        waiting.join(30)
+        waiting.join()
         assert answers[0][0].startswith('long.yml: refused 47: the file of the service is full')
         until(lambda: place.refused(), what='the ledger')
         assert place.refused()[0][1:3] == ('.github/workflows/long.yml', 47)
@@ -167,6 +167,7 @@ def test_a_commit_that_is_not_there_yet_lets_others_pass_and_comes_later(place: 
     pushed = place.repository.only({'one.yml': ONE})
     created_first = place.sender.send('push', pushed, 'c0')[0]
     assert created_first == 202
+    done(place)
     late = {'ref': 'refs/heads/main', 'before': pushed['after'], 'after': place.repository.commit('late', {'src/late': ''}), 'commits': []}
     place.sender.send('push', late, 'c1')
     assert len(spooled(place)) == 1
@@ -201,7 +202,7 @@ def test_a_full_disk_of_the_spool_is_said(place: Place) -> None:
 
 def test_a_signed_payload_of_twenty_mebibytes_is_taken_in_part(tmp_path: pathlib.Path) -> None:
     """Its run has what fits, and says what is left out."""
-    place = Place(tmp_path, wait=60)
+    place = Place(tmp_path)
     try:
         place.start()
         pushed = place.repository.only({'one.yml': ONE})

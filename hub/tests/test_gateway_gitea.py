@@ -24,8 +24,8 @@ def client(request: pytest.FixtureRequest, site: Site) -> Client:
 
 @pytest.fixture
 def alone(make_hub: Callable[..., HubProcess], tmp_path: pathlib.Path) -> Iterator[Site]:
-    """A hub that a test may kill; it gives up a task after three seconds of silence."""
-    made = Site(tmp_path, make_hub(tables={'gateway': {'silence_of_tasks': 3}}))
+    """A hub that a test may kill; it gives up a task after ten seconds of silence."""
+    made = Site(tmp_path, make_hub(tables={'gateway': {'silence_of_tasks': 10}}))
     yield made
     made.close()
 
@@ -169,7 +169,7 @@ def test_a_cancel(site: Site, client: Client) -> None:
     task = client.fetch()
     assert client.update(task).state.result == 0
     site.service.post(f'/runs/{run}/cancel')
-    until(lambda: client.update(task).state.result == 3, 30)
+    until(lambda: client.update(task).state.result == 3)
     client.log(task, 0, 'it ends')
     client.update(task, 'CANCELLED', [step(0, 'CANCELLED', 0, 0)])
     assert conclusion(site, run) == 'cancelled' and site.steps(run)[-1] == (2, 'Run true', 'cancelled')
@@ -238,7 +238,7 @@ def test_a_runner_that_is_gone(alone: Site) -> None:
         time.sleep(1)
         client.update(task)
     assert alone.service.run(run)['status'] == 'in_progress'
-    until(lambda: conclusion(alone, run) == 'failure', 30)
+    until(lambda: conclusion(alone, run) == 'failure')
     client.update(task, 'SUCCESS')
     assert conclusion(alone, run) == 'failure'
 

@@ -49,7 +49,7 @@ class Seen:
             database.close()
 
     @staticmethod
-    async def until(mirror: Mirror, test: Callable[[], Any], seconds: float = 15) -> None:
+    async def until(mirror: Mirror, test: Callable[[], Any], seconds: float = 180) -> None:
         """Waits for the mirror."""
         late = asyncio.get_running_loop().time() + seconds
         while not test():
@@ -63,7 +63,7 @@ def seen(service: Service, tmp_path: pathlib.Path) -> Seen:
 
 
 def play(what: Coroutine[Any, Any, None]) -> None:
-    asyncio.run(asyncio.wait_for(what, 60))
+    asyncio.run(asyncio.wait_for(what, 300))
 
 
 def is_ended(mirror: Mirror, run: int, attempt: int = 1) -> bool:
@@ -120,9 +120,9 @@ def test_watchers_and_waiting_requests_are_told(service: Service, seen: Seen) ->
             run = service.admit()
             changed: set[int] = set()
             while run not in changed:
-                changed |= await asyncio.wait_for(watcher.next(), 10)
+                changed |= await asyncio.wait_for(watcher.next(), 180)
             assert service.post(f'/runs/{run}/cancel').status == 202
-            assert await mirror.settled(lambda: mirror.runs[run].row.status == 'completed')
+            assert await mirror.settled(lambda: mirror.runs[run].row.status == 'completed', 180)
             assert mirror.runs[run].row.conclusion == 'cancelled'
             assert not await mirror.settled(lambda: False, 0.05)
     play(test())

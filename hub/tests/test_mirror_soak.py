@@ -103,7 +103,7 @@ async def compare(world: World, mirror: Mirror) -> tuple[int, int]:
     rows = world.rows()
     await Seen.until(mirror, lambda: {run: (one.row.attempt, one.row.status, one.row.conclusion) for run, one in mirror.runs.items()} == {
         run: (row['attempt'], row['status'], row['conclusion']) for run, row in rows.items()}, 30)
-    await Seen.until(mirror, lambda: all(one.digest for one in mirror.runs.values()), 30)
+    await Seen.until(mirror, lambda: all(one.digest for one in mirror.runs.values()))
     await asyncio.sleep(0.3)
     known = unknown = 0
     for (run, attempt, job, leg), (result, runner, lease) in world.results.items():

@@ -25,7 +25,7 @@ QUERIES = ['', '?per_page=0', '?per_page=-1&page=0', '?page=99999999999999999999
 
 def raw(stand: Stand, method: str, target: str, token: str = 'write') -> tuple[int, bytes]:
     """A request whose target is sent as it is."""
-    with socket.create_connection(('127.0.0.1', stand.port), 20) as made:
+    with socket.create_connection(('127.0.0.1', stand.port), 180) as made:
         made.sendall(
             f'{method} {target} HTTP/1.1\r\nHost: hub\r\nAuthorization: token {stand.tokens[token]}\r\nConnection: close\r\n\r\n'.encode('latin-1'))
         text = b''

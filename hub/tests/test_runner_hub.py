@@ -70,7 +70,8 @@ class Site:
     def annotations(self, run: int) -> list[dict[str, Any]]:
         """The annotations of the job `build`, by GitHub's REST."""
         reader = self.hub.token('reader', 'read')
-        job = self.hub.get(f'/api/v3/repos/octo/hello/actions/runs/{run}/jobs', reader).json()['jobs'][0]['id']
+        jobs = until(lambda: self.hub.get(f'/api/v3/repos/octo/hello/actions/runs/{run}/jobs', reader).json().get('jobs'))  # the hub may know of the run later
+        job = jobs[0]['id']
         found: list[dict[str, Any]] = self.hub.get(f'/api/v3/repos/octo/hello/check-runs/{job}/annotations', reader).json()
         return found
 
@@ -137,10 +138,10 @@ def test_a_leg_with_its_log(site: Site) -> None:
 def test_a_log_comes_while_it_is_written(site: Site) -> None:
     run = site.admit({'run': f'echo first; until [ -e {site.folder}/go ]; do sleep 0.1; done; echo second'})
     host = site.host().start(pause=5)
-    until(lambda: 'first' in site.said(run), 60)
+    until(lambda: 'first' in site.said(run))
     assert 'second' not in site.said(run)
     (site.folder / 'go').touch()
-    until(lambda: 'second' in site.said(run), 60)
+    until(lambda: 'second' in site.said(run))
     host.kill()
 
 
@@ -444,8 +445,8 @@ def test_the_hub_is_killed_while_a_leg_runs(alone: Site) -> None:
     alone.hub.start()
     until(lambda: alone.service.run(run)['status'] == 'completed')
     assert alone.service.run(run)['conclusion'] == 'success', host.complained()
-    until(lambda: numbered(alone, run) == ALL, 60)
-    until(lambda: alone.steps(run)[-1:] == [(3, 'Complete job', 'success')], 60)
+    until(lambda: numbered(alone, run) == ALL)
+    until(lambda: alone.steps(run)[-1:] == [(3, 'Complete job', 'success')])
     assert alone.noted() == ['began']
 
 
@@ -461,8 +462,8 @@ def test_the_hub_is_away_for_the_rest_of_a_leg(alone: Site) -> None:
     until(lambda: 'line 300' in log.read_text())
     alone.hub.start()
     until(lambda: alone.service.run(run)['conclusion'] == 'success')
-    until(lambda: numbered(alone, run) == ALL, 60)
-    until(lambda: [one['message'] for one in alone.annotations(run)] == ['late'], 60)
+    until(lambda: numbered(alone, run) == ALL)
+    until(lambda: [one['message'] for one in alone.annotations(run)] == ['late'])
 
 
 def test_the_runner_is_killed_and_its_next_life_sends_the_rest(alone: Site) -> None:
@@ -506,7 +507,7 @@ def test_a_full_disk_of_the_hub_stops_no_run(make_hub: Callable[..., HubProcess]
         host = site.host().start(pause=0.5)
         until(lambda: site.service.run(run)['conclusion'] == 'success')
         os.remove(small / 'filler')
-        until(lambda: numbered(site, run) == ALL, 90)
+        until(lambda: numbered(site, run) == ALL)
         host.kill()
         site.hub.kill()
     finally:
@@ -528,7 +529,7 @@ def test_a_lease_that_stands_for_something_else(alone: Site) -> None:
     alone.admit({'run': 'echo of the second'})
     alone.run(host=host)
     assert alone.service.run(1)['conclusion'] == 'success', host.complained()
-    until(lambda: 'of the second' in alone.said(1), 60)
+    until(lambda: 'of the second' in alone.said(1))
     assert 'of the first' not in alone.said(1)
 
 

@@ -106,7 +106,7 @@ def test_a_thousand_silent_clients_hold_up_nobody_and_go(make_hub: Callable[...,
         waited = time.monotonic() - began
         assert hub.process is not None
         folder = pathlib.Path(f'/proc/{hub.process.id}/fd')
-        assert until(lambda: len(os.listdir(folder)) > 900, 10)
+        assert until(lambda: len(os.listdir(folder)) > 900)
         until(lambda: len(os.listdir(folder)) < 100, 60, 'silent clients are closed')
         for stream in streams[:3]:
             stream.settimeout(10)
@@ -121,7 +121,7 @@ def test_requests_that_are_none_get_an_answer_and_harm_nothing(hub: HubProcess) 
     for text in (b'nonsense\r\n\r\n', b'GET / HTTP/9.9\r\n\r\n', b'GET /' + b'x' * 20_000 + b' HTTP/1.1\r\nHost: x\r\n\r\n', b'\x16\x03\x01\x02\x00' * 20,
                  b'GET / HTTP/1.1\r\nHost: x\r\n' + b'A: ' + b'x' * 20_000 + b'\r\n\r\n', b'POST /sign-in HTTP/1.1\r\nHost: x\r\nContent-Length: -1\r\n\r\n',
                  b'POST /sign-in HTTP/1.1\r\nHost: x\r\nContent-Length: 1\r\nTransfer-Encoding: chunked\r\n\r\n0\r\n\r\n'):
-        with socket.create_connection(('127.0.0.1', hub.port), 10) as stream:
+        with socket.create_connection(('127.0.0.1', hub.port), 180) as stream:
             stream.sendall(text)
             stream.shutdown(socket.SHUT_WR)
             found = b''

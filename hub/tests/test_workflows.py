@@ -57,7 +57,7 @@ def is_refused_by_runner(stage: Stage, row: Row, refused: Refused) -> None:
     assert run['conclusion'] == 'failure' and jobs.keys() == row.jobs.keys()
     for name, job in jobs.items():
         assert [(step['name'], step['conclusion']) for step in job['steps']] == [('Set up job', 'failure')], job['steps']
-        told = until(lambda: stage.annotations(row, job), 20)
+        told = until(lambda: stage.annotations(row, job))
         assert all(one['message'].startswith('not run: ') and one['path'] == row.path for one in told), told
         assert any(one['start_line'] == refused.line and refused.words in one['message'] for one in told), told
 
@@ -74,7 +74,7 @@ def ends_as_at_github(stage: Stage, row: Row) -> None:
             logs[name] = stage.log(row, jobs[name])
             return has_in_order(logs[name], wanted)
         try:
-            until(holds, 15)  # the end of a log may come after the report
+            until(holds, 60)  # the end of a log may come after the report
         except AssertionError:
             raise AssertionError(f'{name}: {wanted} is not in {logs[name]}') from None
 

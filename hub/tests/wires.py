@@ -30,7 +30,7 @@ class Wire:
             await self.client.close()
             raise
 
-    def frame(self, seconds: float = 20) -> aiohttp.WSMessage:
+    def frame(self, seconds: float = 180) -> aiohttp.WSMessage:
         """The next frame."""
         return self.loop.run_until_complete(self.socket.receive(timeout=seconds))
 

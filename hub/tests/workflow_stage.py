@@ -189,7 +189,7 @@ class Stage:
 
     def ended(self, row: Row) -> dict[str, Any]:
         """Its run, once it has ended. What waits for an approval gets one."""
-        run = until(lambda: self.runs(row), 200)[0]
+        run = until(lambda: self.runs(row))[0]
 
         def look() -> dict[str, Any] | None:
             time.sleep(0.2)
@@ -199,7 +199,7 @@ class Stage:
                 assert self.hub.post(self.place(row) + f'{place}/pending_deployments', given, self.token).status == 200
             found: dict[str, Any] = self.get(row, place)
             return found if found['status'] == 'completed' else None
-        found: dict[str, Any] = until(look, 120)
+        found: dict[str, Any] = until(look)
         return found
 
     def jobs(self, row: Row, run: Mapping[str, Any]) -> dict[str, dict[str, Any]]:

@@ -126,7 +126,7 @@ HOOKS = ((served.event('d1').replace(b'Content-Length', b'Connection: close\r\nC
 # Three lines; what is sent after them is a line that is too long.
 RUNNERS = ((FETCH * 3, 'refused 40\n' * 3 + 'refused 75\n'),)
 EXTRA = b'x' * 262_144
-ROUNDS = 24
+ROUNDS, TRIES = 24, 5
 
 
 def has_ended(client, asked, wanted):
@@ -150,18 +150,25 @@ def end_sessions(client_of, ends, read):
 
 
 def last_answers(acts, folder):
-    """Whatever a client sends after the end of its session, it gets its last answers. At least half of what is sent then is read: the service closes
-    a client that gets no processor for a quarter of a second."""
-    path = f'{folder}/store'
+    """Whatever a client sends after the end of its session, it gets its last answers. At least half of what is sent then is read, in one of some
+    tries: the service closes a client that gets no processor for a quarter of a second."""
+    for _ in range(TRIES):
+        hooks, runners = sessions_that_end(acts, f'{folder}/store')
+        if min(hooks, runners) >= ROUNDS // 2:
+            return f'{ROUNDS} sessions on each port that end and go on sending'
+    expect(False, 'after its end a session reads', hooks, runners, 'of', ROUNDS, 'times')
+
+
+def sessions_that_end(acts, path):
+    """Ends sessions on both ports, and gives on how many of each more was read."""
     served.init(acts, path, AREA)
     service = served.Service(acts, path, 1, rounds=ROUNDS)
     expect(service.ready, 'a service is not ready')
     hooks, runners = [], []
     at_once((lambda: end_sessions(service.hook, HOOKS, hooks), lambda: end_sessions(service.runner, RUNNERS, runners)), SECONDS)
-    expect(len(hooks) >= ROUNDS // 2 and len(runners) >= ROUNDS // 2, 'after its end a session reads', len(hooks), len(runners), 'of', ROUNDS, 'times')
     ended = service.end(SECONDS)[:3]
     expect(ended == (0, 'settled 4\nsettled 4\nsettled 3\n' * (ROUNDS // 3), ''), 'rounds of sessions that end so end with', ended)
-    return f'{ROUNDS} sessions on each port that end and go on sending'
+    return len(hooks), len(runners)
 
 
 def stays(acts, folder):

@@ -82,6 +82,16 @@ def connect(path: pathlib.Path | None, seconds: float = 1) -> sqlite3.Connection
     return connection
 
 
+def connections(path: pathlib.Path) -> tuple[sqlite3.Connection, sqlite3.Connection]:
+    """Two connections to the file: one that writes, and one that reads."""
+    writer = connect(path)
+    try:
+        return writer, connect(path, 0.1)
+    except BaseException:
+        writer.close()
+        raise
+
+
 class Database:
     """Writes wait in memory till the file takes them; `fault` says why it does not, or is None."""
 
@@ -112,8 +122,7 @@ class Database:
 
     def _opened(self) -> bool:
         try:
-            self._writer = connect(self.path)
-            reader = connect(self.path, 0.1)
+            writer, reader = connections(self.path)
         except sqlite3.DatabaseError as fault:
             if isinstance(fault, sqlite3.OperationalError) or not self._moved_aside(fault):
                 self._say(f'the ledger {self.path} can not be opened: {fault}')
@@ -127,6 +136,7 @@ class Database:
             if before is not None:
                 before.close()
         self._say(None)
+        self._writer = writer                               # (last: then what is read is of the file, and no fault is left)
         return True
 
     def _moved_aside(self, fault: Exception) -> bool:
