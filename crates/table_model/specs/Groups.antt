@@ -12,7 +12,7 @@ use Rattle.wf_reader.specs.declared.concurrency.Concurrency.{Concurrency}
 use Rattle.group_name.specs.Group.{Group, group_of, same_group}
 use Rattle.definitions.specs.SmallText.{Admitted}
 use Rattle.run_plan.specs.declared.planned.PlannedJob.{PlannedJob}
-use Rattle.table_model.specs.LegContext.{LegFacts, context_of, facts_at, github_of_run, under, events, run_number, is_set}
+use Rattle.table_model.specs.LegContext.{LegFacts, context_of, facts_at, github_of_run, under, is_set}
 use Rattle.table_model.specs.Runs.{run_at, leg_at, leg_sites, RunState, placed, is_live}
 use Rattle.table_model.specs.declared.holder.Holder.{Holder}
 use Rattle.table_model.specs.declared.holder.Holder.TheVariants.{Run, Leg}
@@ -53,8 +53,8 @@ unfoldable pub run_facts_at : List RunState → ℕ → Option RunFacts
 run_facts_at runs r =
     option_map (λ run. record {
       event = run.admitted;
-      run_id = decimal (r + 1);
-      run_number = decimal (run_number (events runs) r run.admitted);
+      run_id = decimal run.id;
+      run_number = decimal run.number;
       run_attempt = decimal run.attempt;
     }) (run_at runs r)
 

@@ -1,11 +1,10 @@
 -- The context of a leg, and what the templates of a run, its jobs and its legs say in it.
-use Rattle.std.specs.Prelude.{◌≡◌, ℕ, ◌+◌, ◌≤◌, ◌&&◌, List, [], ◌∷◌, ◌++◌, map, length, take, count_by, Bool, pos, find, codes, Option}
+use Rattle.std.specs.Prelude.{ℕ, ◌+◌, ◌&&◌, List, [], ◌∷◌, map, length, count_by, Bool, pos, find, codes, Option}
 use Rattle.std.specs.Prelude.{None, option_map, option_and_then, slice_get, unwrap_or, if◌then◌else◌, false, is_some}
 use Rattle.std.specs.Str.{bytes_eq}
-use Rattle.definitions.specs.Limits.{max_runs}
 use Rattle.wf_reader.specs.Event.{event_of}
 use Rattle.definitions.specs.SmallText.{Admitted}
-use Rattle.table_model.specs.Runs.{RunState, direct_needs, run_at, plan_at}
+use Rattle.table_model.specs.Runs.{RunState, direct_needs, new_run, run_at, plan_at}
 use Rattle.std.specs.Fmt.{decimal}
 use Rattle.std.specs.Option.{option_map_or}
 use Rattle.wf_value.specs.ScalarValue.{result_word, scalar_text}
@@ -26,8 +25,9 @@ use Rattle.wf_reader.specs.declared.flag.Flag.TheVariants as flag
 use Rattle.needs_graph.specs.Needs.{needs_at, ancestor_results as results_of_ancestors, condition_value}
 pub use Rattle.table_model.specs.Runs.{job_results, needs_graph_at, needs_in, results_so_far, finished_result}
 
--- ---- the number of a run: how many runs of its workflow there are up to it. GitHub Docs, "Contexts reference", github.run_number. This project
--- defines that a workflow is identified by its repository and its path.
+-- ---- the runs of a workflow, and the id and the number of the next run. Its number is how many runs of its workflow there are with it.
+-- GitHub Docs, "Contexts reference", github.run_number. This project defines that a workflow is identified by its repository and its path, and
+-- that ids count from 1.
 
 -- the events of runs
 abbrev pub events : List RunState → List Admitted
@@ -38,25 +38,17 @@ abbrev pub same_workflow : Admitted → Admitted → Bool
 same_workflow a b =
     bytes_eq (event_of a.body).repo (event_of b.body).repo && bytes_eq (event_of a.body).path (event_of b.body).path
 
--- the number of run `r`, among the events of all runs
-abbrev pub run_number : List Admitted → ℕ → Admitted → ℕ
-run_number all r event = count_by (same_workflow event) (take (r + 1) all)
+-- how many of the runs are of the workflow of an event
+abbrev pub runs_of_workflow : Admitted → List RunState → ℕ
+runs_of_workflow event runs = count_by (λ run. same_workflow event run.admitted) runs
 
 -- the number that the next run of an event would have
 abbrev pub number_of_next : List RunState → Admitted → ℕ
-number_of_next runs event = count_by (λ run. same_workflow event run.admitted) runs + 1
+number_of_next runs event = runs_of_workflow event runs + 1
 
--- ---- runs that are stored with their numbers
-
--- each event counted among those before it and itself
-abbrev pub numbers_after : List Admitted → List Admitted → List ℕ
-numbers_after before [] = []
-numbers_after before (event ∷ all) =
-    count_by (same_workflow event) (before ++ event ∷ []) ∷ numbers_after (before ++ event ∷ []) all
-
-pub record AreNumbered (runs : List RunState) (numbers : List ℕ) : Type 0 where
-  pub few : length runs ≤ max_runs
-  pub numbered : numbers ≡ numbers_after [] (events runs)
+-- the run that an event makes after these runs
+abbrev pub next_run : List RunState → Admitted → RunState
+next_run runs event = new_run (length runs + 1) (number_of_next runs event) event
 
 -- ---- the context of a leg: the values of the paths that a template in its job may use. GitHub Docs, "Contexts reference": github context,
 -- inputs context, vars context, needs context, strategy context, matrix context. This project defines that the service's own repository,
@@ -145,8 +137,8 @@ unfoldable pub facts_at : List RunState → LegSite → Option LegFacts
 facts_at runs p =
     option_and_then (λ run. option_map (λ job. record {
       event = run.admitted;
-      run_id = decimal (p.run + 1);
-      run_number = decimal (run_number (events runs) p.run run.admitted);
+      run_id = decimal run.id;
+      run_number = decimal run.number;
       run_attempt = decimal run.attempt;
       job = job;
       leg = p.leg;
@@ -165,6 +157,10 @@ context_at runs p = option_map_or context_of (facts_at runs p) nothing
 -- jobs.<job_id>.if, jobs.<job_id>.runs-on, jobs.<job_id>.continue-on-error.
 
 -- ---- of a run
+
+-- its id, or 0 if there is no such run
+abbrev pub id_at : List RunState → ℕ → ℕ
+id_at runs r = option_map_or (λ run. run.id) (run_at runs r) 0
 
 -- whether the run has been asked to stop
 abbrev pub is_stopping : List RunState → ℕ → Bool

@@ -5,6 +5,7 @@ pub mod GroupLaw
 pub mod Groups
 pub mod Holders
 pub mod LegContext
+pub mod Parts
 pub mod Runs
 pub mod Settling
 pub mod Sound

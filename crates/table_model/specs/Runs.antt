@@ -18,8 +18,8 @@ use Rattle.wf_value.specs.declared.outcome.Outcome.{Outcome}
 use Rattle.table_model.specs.declared.phases.LegPhase.TheVariants as leg_phase
 use Rattle.table_model.specs.declared.phases.RunPhase.TheVariants as run_phase
 
--- ---- a run with its jobs and their legs, as contracts see it. It omits what follows from the rest, such as a run's number, a leg's labels and
--- a run's conclusion.
+-- ---- a run with its jobs and their legs, as contracts see it. It omits what follows from the rest, such as a leg's labels and a run's
+-- conclusion.
 
 -- a leg: its phase, and the lease under which a runner runs it or ran it
 pub record LegState : Type 0 where
@@ -31,9 +31,12 @@ pub record JobState : Type 0 where
   pub phase : JobPhase
   pub legs : List LegState
 
--- a run: what was admitted, its attempt, the phase of the attempt, and whether it has been asked to stop. GitHub Docs, "Contexts
--- reference", github.run_attempt: it begins at 1 and grows by 1 with each re-run.
+-- a run: its id, its number among the runs of its workflow, what was admitted, its attempt, the phase of the attempt, and whether it has
+-- been asked to stop. GitHub Docs, "Contexts reference", github.run_id and github.run_number: they do not change if the run is re-run;
+-- github.run_attempt: it begins at 1 and grows by 1 with each re-run.
 pub record RunState : Type 0 where
+  pub id : ℕ
+  pub number : ℕ
   pub admitted : Admitted
   pub attempt : ℕ
   pub phase : RunPhase
@@ -208,9 +211,11 @@ is_delivered_as delivery run = bytes_eq run.admitted.delivery delivery
 abbrev pub blocked_job : JobState
 blocked_job = record { phase = job_phase.Blocked; legs = [] }
 
--- a waiting run in this attempt, with all jobs of its plan blocked
-abbrev pub run_in_attempt : ℕ → Admitted → RunState
-run_in_attempt attempt event = record {
+-- a waiting run with this id and this number, in this attempt, with all jobs of its plan blocked
+abbrev pub run_in_attempt : ℕ → ℕ → ℕ → Admitted → RunState
+run_in_attempt id number attempt event = record {
+  id = id;
+  number = number;
   admitted = event;
   attempt = attempt;
   phase = run_phase.Waiting;
@@ -219,12 +224,12 @@ run_in_attempt attempt event = record {
 }
 
 -- the first attempt
-abbrev pub new_run : Admitted → RunState
-new_run event = run_in_attempt 1 event
+abbrev pub new_run : ℕ → ℕ → Admitted → RunState
+new_run id number event = run_in_attempt id number 1 event
 
--- the next attempt, for the same event
+-- the next attempt, for the same event, with the same id and the same number
 abbrev pub again : RunState → RunState
-again run = run_in_attempt (run.attempt + 1) run.admitted
+again run = run_in_attempt run.id run.number (run.attempt + 1) run.admitted
 
 -- a leg that runs under a lease
 abbrev pub leased_leg : ℕ → LegState

@@ -1,5 +1,6 @@
 -- What every table keeps.
 use Rattle.std.specs.Prelude.{◌≡◌, ◌⊎◌, ℕ, List, [], length, Bool, true, false, slice_get, Option, Some, None, IsSome, ◌<◌, ◌≤◌}
+use Rattle.std.specs.Prelude.{◌+◌, take}
 use Rattle.std.specs.List.{list_all}
 use Rattle.wf_value.specs.declared.outcome.JobResult.{JobResult}
 use Rattle.wf_value.specs.declared.outcome.JobResult.TheVariants as result
@@ -8,7 +9,7 @@ use Rattle.run_plan.specs.PlanOf.{plan_of}
 use Rattle.table_model.specs.Runs.{run_at, job_at, leg_at, LegState, JobState, RunState}
 use Rattle.table_model.specs.declared.sites.LegSite.{LegSite}
 use Rattle.table_model.specs.Settling.{leg_has_ended, is_finished, result_at, first_site}
-use Rattle.table_model.specs.LegContext.{needs_have_finished, planned_legs}
+use Rattle.table_model.specs.LegContext.{needs_have_finished, planned_legs, runs_of_workflow}
 use Rattle.table_model.specs.declared.phases.JobPhase.{JobPhase}
 use Rattle.table_model.specs.declared.phases.JobPhase.TheVariants as job
 use Rattle.table_model.specs.declared.phases.LegPhase.{LegPhase}
@@ -90,6 +91,14 @@ pub record RunsAreSound (runs : List RunState) : Type 0 where
 -- concurrency of workflows and jobs". This project defines leases, command numbers and kept replies.
 
 -- ---- runs
+
+-- ids count from 1
+abbrev pub IdsFollow : List RunState → Type 0
+IdsFollow runs = (r : ℕ) (x : RunState) → run_at runs r ≡ Some x → x.id ≡ r + 1
+
+-- the number of a run is how many runs of its workflow there are up to it
+abbrev pub NumbersFollow : List RunState → Type 0
+NumbersFollow runs = (r : ℕ) (x : RunState) → run_at runs r ≡ Some x → x.number ≡ runs_of_workflow x.admitted (take (r + 1) runs)
 
 -- no delivery made two runs
 abbrev pub DeliveriesDiffer : List RunState → Type 0
@@ -180,6 +189,8 @@ KeptLeasesAreOfLegs most runs runners = (k : ℕ) (x : RunnerState) → slice_ge
 
 pub record IsSound (t : TableState) : Type 0 where
   pub few_runs : length t.runs ≤ max_runs
+  pub ids_follow : IdsFollow t.runs
+  pub numbers_follow : NumbersFollow t.runs
   pub deliveries_differ : DeliveriesDiffer t.runs
   pub attempts_are_given : AttemptsAreGiven t.runs
   pub jobs_are_the_plans : JobsAreThePlans t.runs

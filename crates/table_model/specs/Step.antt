@@ -24,11 +24,11 @@ use Rattle.table_model.specs.Settling.{arrived, settled, settling_moves}
 use Rattle.table_model.specs.Fitting.{first_fit, is_lease_stopping}
 use Rattle.table_model.specs.GroupLaw.{Move, Transition}
 use Rattle.table_model.specs.TableState.{Step, RunnerState, TableState, runner_named, answer_by_number, with_runner, holds_lease, holds_this}
-use Rattle.table_model.specs.Runs.{run_at, with_leg, with_run, RunState, again, is_delivered_as, new_run, leased_leg}
+use Rattle.table_model.specs.Runs.{run_at, with_leg, with_run, RunState, again, is_delivered_as, leased_leg}
 use Rattle.table_model.specs.declared.sites.LegSite.{LegSite}
 use Rattle.table_model.specs.Stops.{stop_holder, with_ended, lease_end_moves, outcome_of_loss}
 use Rattle.table_model.specs.ViewText.{Seen, seen_of, seen_text}
-use Rattle.table_model.specs.LegContext.{job_id, combo_at}
+use Rattle.table_model.specs.LegContext.{job_id, combo_at, id_at, next_run}
 use Rattle.run_plan.specs.declared.last_command.LastCommand.TheVariants as last
 use Rattle.run_plan.specs.declared.last_command.ClaimReply.{ClaimReply}
 use Rattle.run_plan.specs.declared.last_command.ClaimReply.TheVariants as given
@@ -71,7 +71,7 @@ admission_answer t event =
 
 -- the new run arrives in its group
 abbrev pub entered : TableState → Admitted → Transition
-entered t event = arrived (Run (length t.runs)) (t.runs ++ new_run event ∷ [])
+entered t event = arrived (Run (length t.runs)) (t.runs ++ next_run t.runs event ∷ [])
 
 abbrev pub admitting : TableState → Admitted → Step
 admitting t event =
@@ -100,7 +100,7 @@ claiming_runner claim holds given = record { name = claim.runner; number = claim
 
 -- the lease as it is sent to the runner that gets the leg
 abbrev pub lease_at : List RunState → LegSite → ℕ → Leased
-lease_at runs p lease = record { lease = lease; run = p.run + 1; job = job_id runs p.run p.job; leg = p.leg; combo = combo_at runs p }
+lease_at runs p lease = record { lease = lease; run = id_at runs p.run; job = job_id runs p.run p.job; leg = p.leg; combo = combo_at runs p }
 
 -- its kept form: the lease as sent, the attempt of the leg's run in which it was granted, and the job's index
 abbrev pub kept_lease : List RunState → ℕ → LegSite → ℕ → KeptLease

@@ -8,7 +8,6 @@ use Rattle.needs_graph.specs.Needs.{conclusion_of}
 use Rattle.run_plan.specs.PlanOf.{plan_of}
 use Rattle.run_plan.specs.declared.planned.PlannedJob.{PlannedJob}
 pub use Rattle.table_model.specs.Runs.{results_of}
-use Rattle.table_model.specs.LegContext.{events, run_number}
 use Rattle.table_model.specs.Runs.{LegState, JobState, RunState}
 use Rattle.table_model.specs.declared.phases.JobPhase.{JobPhase}
 use Rattle.table_model.specs.declared.phases.JobPhase.TheVariants as job
@@ -26,7 +25,7 @@ pub record Seen : Type 0 where
 -- ids count from 1
 abbrev pub seen_of : List RunState → ℕ → Option Seen
 seen_of runs id =
-    option_map (λ run. record { id = id; number = run_number (events runs) (id - 1) run.admitted; run = run }) (slice_get runs (id - 1))
+    option_map (λ run. record { id = run.id; number = run.number; run = run }) (slice_get runs (id - 1))
 
 abbrev pub leg_text : LegPhase → List ℕ
 leg_text leg.New = codes "new"

@@ -1,6 +1,5 @@
 -- The first site where a rule applies, and the first leg that a search finds, run by run and job by job. Whether a rule applies depends on
--- other runs only for a waiting run and for a waiting leg, which need a group without a holder in progress. A leg's labels depend on the
--- events of other runs, and on nothing else of theirs.
+-- other runs only for a waiting run and for a waiting leg, which need a group without a holder in progress.
 use Rattle.std.specs.Prelude.{ℕ, ◌&&◌, List, Bool, true, false, Option, Some, None, if◌then◌else◌}
 use Rattle.std.specs.List.{list_all}
 use Rattle.std.specs.Option.{option_or, option_map_or}
