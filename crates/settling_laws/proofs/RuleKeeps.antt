@@ -172,7 +172,7 @@ phase_settles runs r x to fit was phase_fits =
     one_settles runs fit r x (run_in_phase to) was
     (record {
       stays = record {
-        same_admitted = refl;
+        same_identity = refl;
         same_attempt = refl;
         keeps_results = (λ j a e. e);
         fits = record {

@@ -89,7 +89,7 @@ module _ (runs : List RunState) (r : ℕ) (x : RunState) (fit : RunFits runs r x
   pub job_stays : PhaseFits x.phase x.stopping (changed_at j f x.jobs) → JobFits (planned_legs runs r j) (result_at runs r j (f y)) (f y)
       → NeedsStay runs r j y (f y) → StaysFit runs r x (record x { jobs = changed_at j f x.jobs })
   job_stays phase fits needs = record {
-    same_admitted = refl;
+    same_identity = refl;
     same_attempt = refl;
     keeps_results = (λ k a e. reads_stay j f x.jobs y (λ z. finished_result z.phase) a was (needs.keeps_result a) k e);
     fits = record {

@@ -3,6 +3,7 @@ pub mod Changed
 pub mod DirectNeeds
 pub mod Doors
 pub mod Found
+pub mod Identity
 pub mod JobKeeps
 pub mod JobPhases
 pub mod LeaseReads

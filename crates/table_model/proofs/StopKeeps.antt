@@ -155,7 +155,7 @@ where_no_legs b y none =
 keeps_nothing : (runs : List RunState) (r : ℕ) (x : RunState) → RunFits runs r x → Keeps runs r x x
 keeps_nothing runs r x fits =
     record {
-      stays = record { same_admitted = refl; same_attempt = refl; keeps_results = (λ j a e. e); fits = fits };
+      stays = record { same_identity = refl; same_attempt = refl; keeps_results = (λ j a e. e); fits = fits };
       same_had = (λ j l. refl);
       same_works = (λ j l. refl);
     }
@@ -166,7 +166,7 @@ leg_facts_keep runs r x fits live =
     let f : ℕ × JobState → JobState = λ j. stopped_where (not (may_run_in leg_facts j.0)) j.1 in
     record {
       stays = record {
-        same_admitted = refl;
+        same_identity = refl;
         same_attempt = refl;
         keeps_results = (λ j a e. ap (option_and_then (λ (y : JobState). finished_result y.phase)) (get_placed f x.jobs j)
             ∙ mapped_reads (λ y. finished_result y.phase) (λ z. f (j, z)) (where_result (not (may_run_in leg_facts j))) (slice_get x.jobs j) ∙ e);
@@ -209,7 +209,7 @@ cancelled_keeps runs r x fits waiting =
     let f = finished_as result.Cancelled in
     record {
       stays = record {
-        same_admitted = refl;
+        same_identity = refl;
         same_attempt = refl;
         keeps_results = (λ j a e.
             let was = from_and_then (λ (y : JobState). finished_result y.phase) (slice_get x.jobs j) a e in

@@ -25,9 +25,11 @@ use std::alloc::Global;
 use std::marker::Model;
 use wf_value::{Condition, JobResult, Refusal, TryCopy, copy_items};
 
-/// A run: what was admitted, and the state of its present attempt.
+/// A run: its id, its number among the runs of its workflow, what was admitted, and the state of its present attempt.
 #[derive(Drop)]
 pub struct Run {
+    id: Number,
+    number: Number,
     prepared: Prepared,
     attempt: Number,
     phase: RunPhase,
@@ -44,13 +46,21 @@ impl Model for Run {
 
     ghost Value = { RunState };
 
-    ghost view = { λ r. record { admitted = r.prepared; attempt = r.attempt; phase = r.phase; stopping = r.stopping; jobs = states r.jobs.items } };
+    ghost view = { λ r. record {
+      id = r.id;
+      number = r.number;
+      admitted = r.prepared;
+      attempt = r.attempt;
+      phase = r.phase;
+      stopping = r.stopping;
+      jobs = states r.jobs.items;
+    } };
 
     ghost invariant = { λ r. ArePlanned (plan_of r.prepared.body) r.jobs.items };
 }
 
 impl Run {
-    /// A waiting run in its first attempt, with all its jobs blocked.
+    /// A waiting run with this id and this number, in its first attempt, with all its jobs blocked.
     /// Promise (Runs, and how they are found): A run is made of an event, or of stored parts; each change of it, and its next attempt, are the
     ///   definition's
     /// By: `table_model::Run::{of_event, again, of_parts, change}`; the types `table_model::{Run, Job, Leg}`
@@ -58,10 +68,15 @@ impl Run {
     /// When: 50
     /// Afterwards: as it was; lists of labels only grow
     /// By: one clause each (`Gives`); `RunBindings::bind`, `err`, `grows`
-    pub fn of_event(alloc: Global, prepared: &Prepared) -> Result<Self, Refusal>
-        ensures { Gives (λ r. r) result (Ok (new_run prepared.now)) }
+    pub fn of_event(
+        alloc: Global,
+        id: Number,
+        number: Number,
+        prepared: &Prepared,
+    ) -> Result<Self, Refusal>
+        ensures { Gives (λ r. r) result (Ok (new_run id number prepared.now)) }
     {
-        Run::in_attempt(alloc, prepared, Number::new(1))
+        Run::in_attempt(alloc, id, number, Number::new(1), prepared)
     }
 
     /// The next attempt of the run: waiting, with all its jobs blocked.
@@ -70,23 +85,44 @@ impl Run {
         ensures { Gives (λ r. r) result (Ok (again self.now)) }
     {
         let next = Number::new(self.attempt.get() + 1);
-        Run::in_attempt(alloc, &self.prepared, next)
+        Run::in_attempt(alloc, self.id, self.number, next, &self.prepared)
     }
 
-    /// A waiting run in this attempt, with all its jobs blocked.
-    fn in_attempt(alloc: Global, prepared: &Prepared, attempt: Number) -> Result<Self, Refusal>
-        ensures { Gives (λ r. r) result (Ok (run_in_attempt attempt prepared.now)) }
+    /// A waiting run with this id and this number, in this attempt, with all its jobs blocked.
+    fn in_attempt(
+        alloc: Global,
+        id: Number,
+        number: Number,
+        attempt: Number,
+        prepared: &Prepared,
+    ) -> Result<Self, Refusal>
+        ensures { Gives (λ r. r) result (Ok (run_in_attempt id number attempt prepared.now)) }
     {
         let plan = prepared.plan();
         let mut jobs = blocked_jobs(alloc, plan.as_slice())?;
         count_needs(&mut jobs, plan.graph());
         Ok(Run {
+            id,
+            number,
             prepared: prepared.share()?,
             attempt,
             phase: RunPhase::Waiting,
             stopping: false,
             jobs,
         })
+    }
+
+    pub fn id(&self) -> Number
+        ensures { result ≡ self.now.id }
+    {
+        self.id
+    }
+
+    /// Its number among the runs of its workflow.
+    pub fn number(&self) -> Number
+        ensures { result ≡ self.now.number }
+    {
+        self.number
     }
 
     pub fn prepared(&self) -> &Prepared
@@ -311,6 +347,8 @@ impl TryCopy for Run {
     /// Shares the event and copies the jobs.
     fn copy(&self, alloc: Global) -> Result<Self, Refusal> {
         Ok(Run {
+            id: self.id,
+            number: self.number,
             prepared: self.prepared.share()?,
             attempt: self.attempt,
             phase: self.phase,

@@ -1,4 +1,4 @@
-//! A run in parts, as it is stored. The parts omit what follows from the rest, such as the run's number and its legs' labels.
+//! A run in parts, as it is stored. The parts omit what follows from the rest, such as the run's id, its number and its legs' labels.
 
 use crate::leg::Leg;
 use crate::phases::{JobPhase, RunPhase};
@@ -33,9 +33,9 @@ pub struct RunParts {
 }
 
 impl Model for RunParts {
-    ghost use Rattle.table_model.specs.Runs.{RunState};
+    ghost use Rattle.table_model.specs.Parts.{RunParts};
 
-    ghost Value = { RunState };
+    ghost Value = { RunParts };
 
     ghost view = { λ r. record { admitted = r.prepared; attempt = r.attempt; phase = r.phase; stopping = r.stopping; jobs = r.jobs } };
 }

@@ -45,7 +45,7 @@ module _ (runs : List RunState) (r : ℕ) (x : RunState) (at : run_at runs r ≡
   asked_stays =
       let fits = fit r x at in
       one_stays runs fit r x asked at (record {
-        same_admitted = refl;
+        same_identity = refl;
         same_attempt = refl;
         keeps_results = (λ j a e. e);
         fits = record {

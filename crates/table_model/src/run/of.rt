@@ -4,26 +4,33 @@ ghost use Rattle.std.specs.Prelude.{◌≡◌, IfOk, MatchOption, length};
 ghost use Rattle.wf_value.specs.Gives.{ErrsOnlyByMemory};
 ghost use Rattle.run_plan.specs.PlanOf.{plan_of};
 ghost use Rattle.table_model.specs.AsPlanned.{HaveRoom, IsAsPlanned};
+ghost use Rattle.table_model.specs.Parts.{run_of_parts};
 ghost use Rattle.table_model.specs.inner.Cells.{legs_planned, rooms, states};
 
 use crate::job::Job;
 use crate::run::Run;
 use crate::run::needs::count_needs;
 use crate::run_parts::{JobParts, RunParts};
-use run_plan::PlannedJob;
+use run_plan::{Number, PlannedJob};
 use std::alloc::Global;
 use wf_value::Refusal;
 
 impl Run {
-    /// The run of these parts, if it has the jobs of its plan and each of them has none of its legs or all. Otherwise `None`.
+    /// The run of these parts with this id and this number, if it has the jobs of its plan and each of them has none of its legs or all.
+    /// Otherwise `None`.
     /// Refusal (The layers below): `table_model`: `Run::of_parts`; `table_runs`: `Runs::of_parts`; `stored_tables`: `TableParts::table`
     /// When: `None`: exactly, with memory, if nothing has these parts. 50
     /// Afterwards: nothing is made
     /// By: `of`, `err`
-    pub fn of_parts(alloc: Global, parts: &RunParts) -> Result<Option<Self>, Refusal>
+    pub fn of_parts(
+        alloc: Global,
+        id: Number,
+        number: Number,
+        parts: &RunParts,
+    ) -> Result<Option<Self>, Refusal>
         ensures err { ErrsOnlyByMemory result }
         ensures of { IfOk result (λ found. MatchOption found (IsAsPlanned (plan_of parts.now.admitted.body) parts.now.jobs → ⊥)
-            (λ run. (run ≡ parts.now) × IsAsPlanned (plan_of parts.now.admitted.body) parts.now.jobs)) }
+            (λ run. (run ≡ run_of_parts id number parts.now) × IsAsPlanned (plan_of parts.now.admitted.body) parts.now.jobs)) }
     {
         let plan = parts.prepared.plan();
         let of_jobs = parts.jobs.as_slice();
@@ -35,6 +42,8 @@ impl Run {
         };
         count_needs(&mut jobs, plan.graph());
         Ok(Some(Run {
+            id,
+            number,
             prepared: parts.prepared.share()?,
             attempt: parts.attempt,
             phase: parts.phase,

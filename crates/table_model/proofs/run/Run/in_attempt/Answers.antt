@@ -29,5 +29,13 @@ returns c =
     let copied = same_Ok _ _ c.in_ok-share.ensures in
     let jobs = sym (blocked_states (plan_of c.args.prepared.now.body)) ∙ ap states (sym made) ∙ sym c.count_needs.ensures.states in
     let made_of : Admitted → List JobState → RunState =
-    λ a js. record { admitted = a; attempt = c.args.attempt; phase = run.Waiting; stopping = false; jobs = js } in
+    λ a js. record {
+      id = c.args.id;
+      number = c.args.number;
+      admitted = a;
+      attempt = c.args.attempt;
+      phase = run.Waiting;
+      stopping = false;
+      jobs = js;
+    } in
     ap (λ js. Ok (made_of c.args.prepared.now js)) jobs ∙ ap (λ a. Ok (made_of a (states c.count_needs.new.jobs.items))) copied
