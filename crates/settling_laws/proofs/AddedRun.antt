@@ -1,19 +1,14 @@
 -- A run comes after all others: the holders before it keep their groups, and those that hold a group still do.
-use Rattle.std.specs.Prelude.{◌≡◌, ℕ, ◌<◌, List, [], ◌∷◌, ◌++◌, length, Option, false, option_map, option_and_then}
+use Rattle.std.specs.Prelude.{◌≡◌, ℕ, ◌<◌, List, [], ◌∷◌, ◌++◌, length, Option, false}
 use Rattle.std.specs.Option.{option_map_or}
 use Rattle.std.proofs.Common.{arith, ap, sym, ◌∙◌}
 use Rattle.std.proofs.lemmas.Option.{slice_get_within}
 use Rattle.table_model.specs.Groups.{leg_holds}
-use Rattle.table_model.specs.LegContext.{events}
 use Rattle.table_model.specs.Runs.{is_live, RunState}
 use Rattle.table_model.specs.declared.holder.Holder.TheVariants.{Run, Leg}
 use Rattle.table_model.proofs.Found.{before_the_end}
 use Rattle.table_model.proofs.JobKeeps.{leg_in}
-use Rattle.table_model.proofs.LegFacts.{SameUpTo, facts_stay}
-use Rattle.table_model.proofs.NeedsSettled.{result_in}
-use Rattle.table_model.proofs.RunFits.{RunsFit}
-use Rattle.table_model.proofs.Settles.{same_events}
-use Rattle.settling_laws.proofs.GroupStays.{leg_group_same, leg_needs_finished, run_group_stays}
+use Rattle.settling_laws.proofs.GroupStays.{same_group}
 use Rattle.settling_laws.proofs.HoldersFade.{by_run, passes, run_passes}
 use Rattle.settling_laws.proofs.KeptBack.{StillHold}
 use Rattle.settling_laws.proofs.OneEach.{GroupsStay, one_that_holds}
@@ -22,25 +17,14 @@ module _ (runs : List RunState) (added : RunState) where
   before_it : (r : ℕ) → r < length runs → r ≡ length runs → ⊥
   before_it r within is = absurd (omega (arith, within, is))
 
-  same_up_to : (r : ℕ) → r < length runs → SameUpTo r (events (runs ++ added ∷ [])) (events runs)
-  same_up_to r within =
-      same_events runs (runs ++ added ∷ []) r
-      (λ s le. ap (option_map (λ (v : RunState). v.admitted))
-      (before_the_end runs added s (λ m. absurd (omega (arith, le, within, m)))))
-
-  pub groups_before : RunsFit runs → GroupsStay runs (runs ++ added ∷ [])
-  groups_before fit (Run r) there =
+  pub groups_before : GroupsStay runs (runs ++ added ∷ [])
+  groups_before (Run r) there =
       let within = slice_get_within runs r there.0 there.1 in
-      run_group_stays runs (runs ++ added ∷ []) r (same_up_to r within)
-      (ap (option_map (λ (v : RunState). v.attempt)) (before_the_end runs added r (before_it r within)))
-  groups_before fit (Leg p) there =
-      let next = runs ++ added ∷ [] in
+      same_group runs (runs ++ added ∷ []) (Run r) (before_the_end runs added r (before_it r within))
+  groups_before (Leg p) there =
       let at = leg_in runs p there.0 there.1 in
       let within = slice_get_within runs p.run at.place.run at.place.run_is in
-      let before = before_the_end runs added p.run (before_it p.run within) in
-      leg_group_same runs next p
-      (facts_stay runs next p (same_up_to p.run within) (ap (option_map (λ (v : RunState). v.attempt)) before) (leg_needs_finished runs fit p there.0 there.1)
-      (λ j a had. ap (option_and_then (λ (v : RunState). result_in v j)) before ∙ had))
+      same_group runs (runs ++ added ∷ []) (Leg p) (before_the_end runs added p.run (before_it p.run within))
 
   pub still_hold : StillHold runs (runs ++ added ∷ [])
   still_hold (Run r) g at held =
