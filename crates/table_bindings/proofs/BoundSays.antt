@@ -1,7 +1,6 @@
 -- What is bound for a run and its legs gives their groups, given the results of the run's jobs.
-use Rattle.std.specs.Prelude.{◌≡◌, ℕ, zero, suc, ◌+◌, List, [], ◌∷◌, length, Bool, false, Option, Some, None, option_map}
+use Rattle.std.specs.Prelude.{◌≡◌, ℕ, zero, suc, List, [], ◌∷◌, length, Bool, false, Option, Some, None, option_map}
 use Rattle.std.specs.Prelude.{option_and_then, slice_get, refl}
-use Rattle.std.specs.Fmt.{decimal}
 use Rattle.std.specs.Option.{option_map_or}
 use Rattle.std.proofs.Common.{arith, ap, subst, sym, ◌∙◌}
 use Rattle.wf_expr.specs.Bound.{Results}
@@ -13,10 +12,10 @@ use Rattle.group_name.specs.BoundGroup.{group_at as bound_group_at}
 use Rattle.run_plan.specs.PlanOf.{plan_of}
 use Rattle.run_plan.specs.declared.planned.PlannedJob.{PlannedJob}
 use Rattle.table_model.specs.Groups.{RunFacts, concurrency_of_leg, cancels_in_progress, group_at, leg_cancels, leg_group, named_group}
-use Rattle.table_model.specs.Groups.{run_cancels, run_context, run_facts_at, run_group}
+use Rattle.table_model.specs.Groups.{run_cancels, run_context, run_facts, run_facts_at, run_group}
 use Rattle.table_model.specs.Holders.{run_of}
 use Rattle.table_model.specs.Runs.{direct_needs, run_at, RunState}
-use Rattle.table_model.specs.LegContext.{LegFacts, context_of, facts_at, events, run_number, is_set}
+use Rattle.table_model.specs.LegContext.{LegFacts, context_of, facts_at, is_set}
 use Rattle.table_model.specs.declared.sites.LegSite.{LegSite}
 use Rattle.table_bindings.specs.Bindings.{AreBound, RunSays, group_request_of}
 use Rattle.table_bindings.specs.BoundGroups.{SaysSo, facts_by, is_set_by, results_by_index}
@@ -47,43 +46,35 @@ says_flag repository values (Some requested) (Some kept) says results = says.can
 
 -- ---- the facts of a run, and of a leg given the results of its run's jobs
 
-abbrev pub facts_of_run : List RunState → ℕ → RunState → RunFacts
-facts_of_run runs r run = record {
-  event = run.admitted;
-  run_id = decimal (r + 1);
-  run_number = decimal (run_number (events runs) r run.admitted);
-  run_attempt = decimal run.attempt;
-}
-
-pub run_told : (runs : List RunState) (r : ℕ) (x : RunState) → run_at runs r ≡ Some x → run_facts_at runs r ≡ Some (facts_of_run runs r x)
+pub run_told : (runs : List RunState) (r : ℕ) (x : RunState) → run_at runs r ≡ Some x → run_facts_at runs r ≡ Some (run_facts x)
 unfolding run_facts_at
-run_told runs r x at = ap (option_map (facts_of_run runs r)) at
+run_told runs r x at = ap (option_map run_facts) at
 
-abbrev pub leg_facts_of : List RunState → LegSite → RunState → PlannedJob → LegFacts
-leg_facts_of runs p x job = facts_by (facts_of_run runs p.run x) p.job job p.leg (results_by_index x)
+abbrev pub leg_facts_of : LegSite → RunState → PlannedJob → LegFacts
+leg_facts_of p x job = facts_by (run_facts x) p.job job p.leg (results_by_index x)
 
 pub leg_told : (runs : List RunState) (p : LegSite) (x : RunState) (job : PlannedJob) → run_at runs p.run ≡ Some x
-    → slice_get (plan_of x.admitted.body) p.job ≡ Some job → facts_at runs p ≡ Some (leg_facts_of runs p x job)
+    → slice_get (plan_of x.admitted.body) p.job ≡ Some job → facts_at runs p ≡ Some (leg_facts_of p x job)
 unfolding facts_at direct_needs
 leg_told runs p x job at planned =
-    ap (option_and_then (λ (run : RunState). option_map (leg_facts_of runs p run) (slice_get (plan_of run.admitted.body) p.job))) at
-    ∙ ap (option_map (leg_facts_of runs p x)) planned
+    ap (option_and_then (λ (run : RunState). option_map (leg_facts_of p run) (slice_get (plan_of run.admitted.body) p.job))) at
+    ∙ ap (option_map (leg_facts_of p x)) planned
 
 run_untold : (runs : List RunState) (r : ℕ) → run_at runs r ≡ None → run_facts_at runs r ≡ None
 unfolding run_facts_at
-run_untold runs r none = ap (option_map (facts_of_run runs r)) none
+run_untold runs r none = ap (option_map run_facts) none
 
 pub leg_untold : (runs : List RunState) (p : LegSite) → run_at runs p.run ≡ None → facts_at runs p ≡ None
 unfolding facts_at direct_needs
 leg_untold runs p none =
-    ap (option_and_then (λ (run : RunState). option_map (leg_facts_of runs p run) (slice_get (plan_of run.admitted.body) p.job))) none
+    ap (option_and_then (λ (run : RunState). option_map (leg_facts_of p run) (slice_get (plan_of run.admitted.body) p.job))) none
 
 pub job_untold : (runs : List RunState) (p : LegSite) (x : RunState) → run_at runs p.run ≡ Some x
     → slice_get (plan_of x.admitted.body) p.job ≡ None → facts_at runs p ≡ None
 unfolding facts_at direct_needs
 job_untold runs p x at unplanned =
-    ap (option_and_then (λ (run : RunState). option_map (leg_facts_of runs p run) (slice_get (plan_of run.admitted.body) p.job))) at
-    ∙ ap (option_map (leg_facts_of runs p x)) unplanned
+    ap (option_and_then (λ (run : RunState). option_map (leg_facts_of p run) (slice_get (plan_of run.admitted.body) p.job))) at
+    ∙ ap (option_map (leg_facts_of p x)) unplanned
 
 -- ---- lists of the same length
 
@@ -117,12 +108,12 @@ SaysBoth runs h x k = (group_by x (group_request_of k h) ≡ group_at runs h) ×
 
 module _ (runs : List RunState) (kept : List RunBindings) (bound : AreBound runs kept) where
   pub run_says : (r : ℕ) (x : RunState) (k : RunBindings) → run_at runs r ≡ Some x → slice_get kept r ≡ Some k
-      → RunSays (facts_of_run runs r x) k
-  run_says r x k at is = bound.each r (facts_of_run runs r x) k (run_told runs r x at) is
+      → RunSays (run_facts x) k
+  run_says r x k at is = bound.each r (run_facts x) k (run_told runs r x at) is
 
 module _ (runs : List RunState) where
   leg_says : (p : LegSite) (x : RunState) (k : RunBindings) → run_at runs p.run ≡ Some x
-      → RunSays (facts_of_run runs p.run x) k → (o : Option PlannedJob) → slice_get (plan_of x.admitted.body) p.job ≡ o
+      → RunSays (run_facts x) k → (o : Option PlannedJob) → slice_get (plan_of x.admitted.body) p.job ≡ o
       → group_by x (group_request_of k (Leg p)) ≡ option_and_then leg_group (facts_at runs p)
       × flag_by x (group_request_of k (Leg p)) ≡ option_map_or leg_cancels (facts_at runs p) false
   leg_says p x k at says None unplanned =
@@ -134,7 +125,7 @@ module _ (runs : List RunState) where
         ap (flag_by x) none ∙ sym (ap (λ o. option_map_or leg_cancels o false) untold),
       )
   leg_says p x k at run (Some job) planned =
-      let f = facts_of_run runs p.run x in
+      let f = run_facts x in
       let repo = (event_of f.event.body).repo in
       let values : Results → Values = λ results. context_of (facts_by f p.job job p.leg results) in
       let bindings = as_long (plan_of x.admitted.body) k.jobs p.job job run.as_many planned in
@@ -149,10 +140,10 @@ module _ (runs : List RunState) where
       )
 
   both_said : (h : Holder) (x : RunState) (k : RunBindings) → run_at runs (run_of h) ≡ Some x
-      → RunSays (facts_of_run runs (run_of h) x) k → SaysBoth runs h x k
+      → RunSays (run_facts x) k → SaysBoth runs h x k
   unfolding group_at cancels_in_progress
   both_said (Run r) x k at says =
-      let f = facts_of_run runs r x in
+      let f = run_facts x in
       let event = event_of f.event.body in
       let identity = run_told runs r x at in (
         says_group event.repo (λ results. run_context f) event.workflow.concurrency k.own says.own (results_by_index x)
@@ -167,7 +158,7 @@ module _ (runs : List RunState) where
       → ((facts : RunFacts) → run_facts_at runs r ≡ Some facts → RunSays facts k)
       → SaysBoth runs h x k
   said_there h x k r is at says =
-      both_said h x k at (says (facts_of_run runs (run_of h) x) (ap (run_facts_at runs) is ∙ run_told runs (run_of h) x at))
+      both_said h x k at (says (run_facts x) (ap (run_facts_at runs) is ∙ run_told runs (run_of h) x at))
 
 -- ---- without a run there is neither group nor flag
 

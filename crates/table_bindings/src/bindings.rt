@@ -3,8 +3,7 @@
 //! groups is taken. From then on deciding a group and comparing labels takes no memory and looks nothing up. What was bound does not change,
 //! so runs for which the same was bound share it. The keys of groups change as they are decided, and are each run's own.
 
-ghost use Rattle.std.specs.Prelude.{◌≡◌, ◌<◌, ◌+◌, ◌++◌, ◌∷◌, ℕ, [], IfOk, List, Ok, OnOk, Some, length, option_map, slice_get};
-ghost use Rattle.std.specs.Fmt.{decimal};
+ghost use Rattle.std.specs.Prelude.{◌≡◌, ◌<◌, ◌++◌, ◌∷◌, ℕ, [], IfOk, List, Ok, OnOk, Some, length, option_map, slice_get};
 ghost use Rattle.std.specs.Option.{option_map_or};
 ghost use Rattle.definitions.specs.Limits.{max_runs};
 ghost use Rattle.wf_value.specs.Gives.{ErrsOnlyByMemory, Gives};
@@ -12,6 +11,7 @@ ghost use Rattle.label_lists.specs.Lists.{HasPlace, OnlyGrows};
 ghost use Rattle.run_plan.specs.PlanOf.{plan_of};
 ghost use Rattle.run_plan.specs.declared.planned.PlannedJob.{PlannedJob as Planned};
 ghost use Rattle.table_model.specs.Fitting.{has_labels};
+ghost use Rattle.table_model.specs.Groups.{run_facts};
 ghost use Rattle.table_bindings.specs.Bindings.{JobSays, KeepsLabels, KeepsLabelsAt, RunSays, group_request_of, flag_for};
 ghost use Rattle.table_bindings.specs.BoundGroups.{results_by_index};
 ghost use Rattle.table_bindings.specs.inner.BoundJobs.{AddsOne, AreBeside, AreNumbersOf};
@@ -117,8 +117,8 @@ impl RunBindings {
         job.flags.as_slice().get(l)
     }
 
-    /// Binds what the run and its legs ask, for run `r` of a table, which has this number. The lists of labels that the legs ask for are
-    /// entered. On an `Err` (50, out of memory) some of them may have been. What was bound alike for `like`, another run, is kept once.
+    /// Binds what the run and its legs ask, for run `r` of a table. The lists of labels that the legs ask for are entered. On an `Err` (50,
+    /// out of memory) some of them may have been. What was bound alike for `like`, another run, is kept once.
     /// Promise (Runs, and how they are found): What an attempt binds of groups, labels and flags says, by any results of jobs, what its
     ///   templates say in the context with these results; so a report evaluates no template
     /// By: `table_bindings::RunBindings::{bind, requested, flag, is_served}`; `table_bindings::LegView::label_texts`
@@ -128,7 +128,6 @@ impl RunBindings {
     pub fn bind(
         alloc: Global,
         run: &Run,
-        number: usize,
         lists: &mut LabelLists,
         r: usize,
         like: Option<&RunBindings>,
@@ -137,13 +136,7 @@ impl RunBindings {
         requires place { HasPlace lists.old 0 r }
         ensures err { ErrsOnlyByMemory result }
         ensures grows { OnlyGrows lists.old lists.new }
-        ensures says { IfOk result
-            (RunSays (record {
-              event = run.now.admitted;
-              run_id = decimal (r + 1);
-              run_number = decimal number;
-              run_attempt = decimal run.now.attempt;
-            })) }
+        ensures says { IfOk result (RunSays (run_facts run.now)) }
         ensures own { IfOk result (λ b. b.keys.own ≡ option_map_or (decided (results_by_index run.now)) b.own NoGroup) }
         ensures as_many { IfOk result (λ b. length b.keys.jobs ≡ length b.jobs) }
         ensures later { IfOk result (λ b. AllAreLater b.jobs b.keys.jobs) }
@@ -154,8 +147,8 @@ impl RunBindings {
         let mut attempt_digits = Buffer::new();
         let identity = RunIdentity {
             run,
-            run_id: id_digits.format(r + 1),
-            run_number: number_digits.format(number),
+            run_id: id_digits.format(run.id().get() as usize),
+            run_number: number_digits.format(run.number().get() as usize),
             run_attempt: attempt_digits.format(run.attempt().get() as usize),
         };
         bind_identity(alloc, &identity, run, lists, r, like)

@@ -12,9 +12,6 @@ use table_model::Run;
 #[derive(Drop)]
 pub struct LegView<'a> {
     pub run: &'a Run,
-    pub run_id: usize,
-    /// The number of runs of the workflow up to the leg's.
-    pub run_number: usize,
     pub job: &'a PlannedJob,
     /// The job's index in its run.
     pub index: usize,
@@ -32,8 +29,8 @@ impl<'a> Model for LegView<'a> {
 
     ghost view = { λ v. record {
       event = v.run.now.admitted;
-      run_id = decimal v.run_id;
-      run_number = decimal v.run_number;
+      run_id = decimal v.run.now.id;
+      run_number = decimal v.run.now.number;
       run_attempt = decimal v.run.now.attempt;
       job = v.job.now;
       leg = v.leg;
@@ -55,8 +52,8 @@ impl<'a> LegView<'a> {
     {
         LegContext {
             run: self.run,
-            run_id: id_digits.format(self.run_id),
-            run_number: number_digits.format(self.run_number),
+            run_id: id_digits.format(self.run.id().get() as usize),
+            run_number: number_digits.format(self.run.number().get() as usize),
             run_attempt: attempt_digits.format(self.run.attempt().get() as usize),
             job: self.job,
             index: self.index,

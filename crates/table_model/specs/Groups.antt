@@ -48,15 +48,17 @@ abbrev pub run_context : RunFacts → Values
 run_context run =
     over (value_in_github (github_of_run run.event run.run_id run.run_number run.run_attempt)) (sent_value (event_of run.event.body).contexts)
 
+abbrev pub run_facts : RunState → RunFacts
+run_facts run = record {
+  event = run.admitted;
+  run_id = decimal run.id;
+  run_number = decimal run.number;
+  run_attempt = decimal run.attempt;
+}
+
 -- the facts of run `r`
 unfoldable pub run_facts_at : List RunState → ℕ → Option RunFacts
-run_facts_at runs r =
-    option_map (λ run. record {
-      event = run.admitted;
-      run_id = decimal run.id;
-      run_number = decimal run.number;
-      run_attempt = decimal run.attempt;
-    }) (run_at runs r)
+run_facts_at runs r = option_map run_facts (run_at runs r)
 
 -- ---- the group
 
