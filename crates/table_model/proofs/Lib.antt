@@ -13,6 +13,7 @@ pub mod LegReads
 pub mod NamedOnce
 mod NeedsLeft
 pub mod NeedsSettled
+pub mod Numbered
 pub mod OneAfterAnother
 pub mod Optional
 pub mod RoomsRead

@@ -1,7 +1,8 @@
--- A run as it is stored: without its id and its number, which follow from its place among the runs.
-use Rattle.std.specs.Prelude.{ℕ, List, Bool}
+-- Runs as they are stored: without their ids and their numbers, which follow from their places.
+use Rattle.std.specs.Prelude.{◌≡◌, ℕ, List, map, Bool}
 use Rattle.definitions.specs.SmallText.{Admitted}
 use Rattle.table_model.specs.Runs.{JobState, RunState}
+use Rattle.table_model.specs.Sound.{IdsFollow, NumbersFollow}
 use Rattle.table_model.specs.declared.phases.RunPhase.{RunPhase}
 
 -- what was admitted, the attempt and its phase, whether the run has been asked to stop, and the jobs
@@ -32,3 +33,9 @@ run_of_parts id number parts = record {
   stopping = parts.stopping;
   jobs = parts.jobs;
 }
+
+-- the runs that are stored as these parts
+pub record AreRunsOf (parts : List RunParts) (runs : List RunState) : Type 0 where
+  pub as_stored : map stored_run runs ≡ parts
+  pub ids : IdsFollow runs
+  pub numbers : NumbersFollow runs
