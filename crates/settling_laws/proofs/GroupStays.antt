@@ -81,7 +81,7 @@ leg_cancels_stays runs next fit stay p z was = ap (λ o. option_map_or leg_cance
 facts_of_same_run : (runs next : List RunState) (p : LegSite) → run_at next p.run ≡ run_at runs p.run → facts_at next p ≡ facts_at runs p
 facts_of_same_run runs next p at = facts_are next p ∙ ap (option_and_then (leg_facts_in p)) at ∙ sym (facts_are runs p)
 
-same_run_facts : (runs next : List RunState) (r : ℕ) → run_at next r ≡ run_at runs r → run_facts_at next r ≡ run_facts_at runs r
+pub same_run_facts : (runs next : List RunState) (r : ℕ) → run_at next r ≡ run_at runs r → run_facts_at next r ≡ run_facts_at runs r
 same_run_facts runs next r at = run_facts_stay runs next r (ap identity_in at) (ap (option_map (λ (run : RunState). run.attempt)) at)
 
 -- ---- a run or a leg

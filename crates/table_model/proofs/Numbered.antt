@@ -106,6 +106,16 @@ numbers_stay runs next same follow r x at =
 
 -- ---- runs and their parts
 
+no_run : (r : ℕ) (x : RunState) → run_at [] r ≡ Some x → ⊥
+no_run r x at = cc
+
+pub none_of : (runs : List RunState) → runs ≡ [] → AreRunsOf [] runs
+none_of runs none = subst (AreRunsOf []) (sym none) (record {
+  as_stored = refl;
+  ids = (λ r x at. absurd (no_run r x at));
+  numbers = (λ r x at. absurd (no_run r x at));
+})
+
 pub one_more_of : (parts : List RunParts) (r : ℕ) (part : RunParts) (runs : List RunState) (run : RunState) → AreRunsOf (take r parts) runs
     → slice_get parts r ≡ Some part → run ≡ run_of_parts (length runs + 1) (number_of_next runs part.admitted) part
     → AreRunsOf (take (r + 1) parts) (runs ++ run ∷ [])

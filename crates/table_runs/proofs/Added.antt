@@ -116,5 +116,5 @@ pub due_rerun : (runs next : List RunState) (old new : List ℕ) (r : ℕ) → r
 due_rerun runs next old new r lt ended is sound as_long puts are =
     let x = ended_there runs r lt ended in
     subst (λ rs. AreMarked (is_due rs) rs new) (sym is)
-    (due_changed runs again old new r (λ y. refl) (λ s other none. again_still runs r x.0 sound x.1 x.2 s)
+    (due_changed runs again old new r (λ s other none. again_still runs r x.0 sound x.1 x.2 s)
     (λ i marked. put_adds r i old new puts marked) (put_marks r r old new puts refl) as_long are)

@@ -51,7 +51,7 @@ empty_book : (entries : Entries) (g : Group) → entries ≡ [] → ((slot_in en
 empty_book entries g empty =
     (ap (λ (es : Entries). (slot_in es g).in_progress) empty, ap (λ (es : Entries). (slot_in es g).pending) empty)
 
-module _ (parts : List RunState) (rows : RowState) (book : BookState Holder) (stored : AreStored parts rows book) (empty : book.entries ≡ []) where
+module _ (rows : RowState) (book : BookState Holder) (stored : AreStored rows book) (empty : book.entries ≡ []) where
   pub start_seats : HasSeats InProgress rows.runs rows.bindings book
   start_seats = record { beside = λ g. (empty_book book.entries g empty).1; told = stored.told; expected = stored.expected }
 
@@ -62,9 +62,9 @@ module _ (parts : List RunState) (rows : RowState) (book : BookState Holder) (st
   free_at_first = none_seated InProgress rows.runs book.entries (λ g. (empty_book book.entries g empty).0)
 
   -- two are in progress in a group
-  pub two_in_progress : OneIsTaken InProgress everybody rows.runs book.entries → HasOneEach parts → ⊥
+  pub two_in_progress : OneIsTaken InProgress everybody rows.runs book.entries → HasOneEach rows.runs → ⊥
   two_in_progress taken one =
-      taken nobody (nobody_apart InProgress rows.runs everybody) free_at_first (subst HasOneEach (sym stored.runs) one)
+      taken nobody (nobody_apart InProgress rows.runs everybody) free_at_first one
 
   module _ (first : List RunBindings) (mid : BookState Holder) (seats : TakeSeats InProgress everybody rows.runs rows.bindings first book.entries mid.entries)
       (kept : HasSeats InProgress rows.runs first mid) where
@@ -80,9 +80,9 @@ module _ (parts : List RunState) (rows : RowState) (book : BookState Holder) (st
     free_then : AreSeated Pending nobody rows.runs mid.entries
     free_then = none_seated Pending rows.runs mid.entries kept.beside
 
-    pub two_pending : OneIsTaken Pending everybody rows.runs mid.entries → HasOneEach parts → ⊥
+    pub two_pending : OneIsTaken Pending everybody rows.runs mid.entries → HasOneEach rows.runs → ⊥
     two_pending taken one =
-        taken nobody (nobody_apart Pending rows.runs everybody) free_then (subst HasOneEach (sym stored.runs) one)
+        taken nobody (nobody_apart Pending rows.runs everybody) free_then one
 
     module _ (now : List RunBindings) (new : BookState Holder) (later : TakeSeats Pending everybody rows.runs first now mid.entries new.entries)
         (still : HasSeats Pending rows.runs now new) where

@@ -15,7 +15,6 @@ use Rattle.table_model.specs.declared.sites.JobSite.{JobSite}
 use Rattle.table_model.specs.inner.Resuming.{NoneBefore, RestBefore, resume_at_arrival}
 use Rattle.table_model.specs.inner.WithinRun.{first_in_run}
 use Rattle.table_model.proofs.Found.{before_the_end}
-use Rattle.table_model.proofs.RunFits.{RunsFit}
 use Rattle.settling_laws.proofs.AddedRun.{groups_before, still_hold}
 use Rattle.settling_laws.proofs.HoldersKeep.{arrival_settles}
 use Rattle.settling_laws.proofs.KeptBack.{kept_back}
@@ -34,11 +33,11 @@ rested runs rests n k lt = requested_none (first_in_run runs) runs
     (each_none (first_in_run runs) runs (sym (first_place_by_run runs) ∙ rests)) k _ refl
 
 -- a run that changes nothing in its arrival
-alone : (runs : List RunState) (run : RunState) → RunsFit runs → first_site runs ≡ None
+alone : (runs : List RunState) (run : RunState) → first_site runs ≡ None
     → RestBefore (runs ++ run ∷ []) (record { run = length runs; job = 0 })
-alone runs run fit rests =
+alone runs run rests =
     let next = runs ++ run ∷ [] in
-    let keeps = kept_back runs next (groups_before runs run fit) (still_hold runs run) in (
+    let keeps = kept_back runs next (groups_before runs run) (still_hold runs run) in (
       runs_rest runs next keeps (length runs) (λ k lt. before_the_end runs run k (λ is. absurd (omega (arith, lt, is))))
           (rested runs rests (length runs)),
       λ x at live k lt. absurd (omega (arith, lt)),
@@ -62,5 +61,5 @@ arriving_rests runs run sound rests new from new_is from_is =
           let stay : new ≡ added = new_is
           ∙ ap (λ (o : Option Group). (option_map_or (room_made (cancels_in_progress added h) h added) o (without_moves added)).runs) is in
           subst (RestBefore new) (sym start)
-          (subst (λ (xs : List RunState). RestBefore xs (record { run = n; job = 0 })) (sym stay) (alone runs run (runs_that_fit runs sound) rests))
+          (subst (λ (xs : List RunState). RestBefore xs (record { run = n; job = 0 })) (sym stay) (alone runs run rests))
     ] refl

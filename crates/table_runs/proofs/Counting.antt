@@ -18,9 +18,9 @@ use Rattle.wf_reader.specs.Event.{event_of}
 use Rattle.definitions.specs.SmallText.{Admitted}
 use Rattle.table_model.specs.LegContext.{events, number_of_next, same_workflow}
 use Rattle.table_model.specs.Runs.{RunState}
+use Rattle.table_model.proofs.Numbered.{count_of_map}
 use Rattle.table_runs.specs.inner.Counted.{AreCounted, count_of}
 use Rattle.table_runs.specs.declared.rows.counts.Counted.{Counted}
-use Rattle.table_runs.proofs.RunNumbers.{count_of_map}
 
 laws : IsEquivalence same_workflow
 laws = and_equiv (on_equiv (λ (e : Admitted). (event_of e.body).repo) nat_list_eq_equiv)

@@ -11,7 +11,6 @@ use Rattle.table_model.specs.Stops.{stop_holder, stopped, stopped_run}
 use Rattle.table_model.specs.declared.holder.Holder.{Holder}
 use Rattle.table_model.specs.declared.holder.Holder.TheVariants.{Run, Leg}
 use Rattle.table_model.proofs.JobKeeps.{with_job_of, with_leg_of}
-use Rattle.table_model.proofs.StoppedRuns.{stopped_admitted}
 use Rattle.settling_laws.proofs.KeptBack.{RunsStillFor}
 use Rattle.table_runs.specs.inner.Arriving.{stopped_if}
 use Rattle.table_runs.specs.inner.HolderChanges.{EndsOnly}
@@ -35,9 +34,9 @@ due_stopped : (runs : List RunState) (d : Holder) (old new : List ℕ) → RunsA
     → ((i : ℕ) → is_marked old i ≡ true → is_marked new i ≡ true) → is_marked new (run_of d) ≡ true → length new ≡ length old
     → AreMarked (is_due runs) runs old → AreMarked (is_due (stop_holder d runs).runs) (stop_holder d runs).runs new
 due_stopped runs (Run r) old new sound waiting kept itself as_long are =
-    due_changed runs stopped_run old new r stopped_admitted (λ s other none. still_displaced runs (Run r) sound waiting s) kept itself as_long are
+    due_changed runs stopped_run old new r (λ s other none. still_displaced runs (Run r) sound waiting s) kept itself as_long are
 due_stopped runs (Leg p) old new sound waiting kept itself as_long are =
-    due_changed runs (with_job_of p.job (with_leg_of p.leg stopped)) old new p.run (λ x. refl)
+    due_changed runs (with_job_of p.job (with_leg_of p.leg stopped)) old new p.run
     (λ s other none. still_displaced runs (Leg p) sound waiting s) kept itself as_long are
 
 pub due_displaced : (runs : List RunState) (displaced : Option Holder) (old new : List ℕ) → RunsAreSound runs

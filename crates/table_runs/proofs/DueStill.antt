@@ -1,16 +1,14 @@
 -- A holder of another run that was kept back is still kept back after a change, unless the change frees its group and it is pending there.
-use Rattle.std.specs.Prelude.{◌≡◌, ◌<◌, ℕ, zero, suc, List, [], ◌∷◌, true, false, length, Option, None, Some, slice_get, refl}
+use Rattle.std.specs.Prelude.{◌≡◌, ◌<◌, ℕ, List, true, false, length, Option, None, Some, refl}
 use Rattle.std.proofs.Common.{arith, ap, sym, ◌∙◌}
 use Rattle.std.proofs.lemmas.Bool.{and_parts}
 use Rattle.group_book.specs.Books.{slot_in}
 use Rattle.group_book.proofs.Exact.{it_is_in, its_group, pick}
 use Rattle.group_name.specs.Group.{Group}
-use Rattle.definitions.specs.SmallText.{Admitted}
 use Rattle.run_marks.specs.Marked.{is_marked}
-use Rattle.table_model.specs.Runs.{changed_at, with_run, RunState}
+use Rattle.table_model.specs.Runs.{with_run, RunState}
 use Rattle.table_model.specs.Groups.{group_at, holds, is_in, is_in_progress_in, waits}
 use Rattle.table_model.specs.Holders.{run_of}
-use Rattle.table_model.specs.LegContext.{events}
 use Rattle.table_model.specs.declared.holder.Holder.{Holder}
 use Rattle.table_model.proofs.Changed.{at_another, length-changed_at}
 use Rattle.settling_laws.proofs.KeptBack.{RunsStillFor, runs_still}
@@ -91,20 +89,13 @@ still_after_end old new before after one key next ends exact is leaves s unless 
 
 -- ---- the marks of runs that are due
 
-pub events_after : (f : RunState → RunState) → ((x : RunState) → (f x).admitted ≡ x.admitted) → (r : ℕ) (runs : List RunState)
-    → events (changed_at r f runs) ≡ events runs
-events_after f same r [] = refl
-events_after f same zero (x ∷ runs) = ap (λ (a : Admitted). a ∷ events runs) (same x)
-events_after f same (suc r) (x ∷ runs) = ap (λ (es : List Admitted). x.admitted ∷ es) (events_after f same r runs)
-
--- a run changes and keeps its event
-pub due_changed : (runs : List RunState) (f : RunState → RunState) (old new : List ℕ) (r : ℕ) → ((x : RunState) → (f x).admitted ≡ x.admitted)
+-- a run changes
+pub due_changed : (runs : List RunState) (f : RunState → RunState) (old new : List ℕ) (r : ℕ)
     → ((s : ℕ) → (s ≡ r → ⊥) → is_marked new s ≡ false → RunsStillFor runs (with_run r f runs) s)
     → ((i : ℕ) → is_marked old i ≡ true → is_marked new i ≡ true) → is_marked new r ≡ true → length new ≡ length old
     → AreMarked (is_due runs) runs old → AreMarked (is_due (with_run r f runs)) (with_run r f runs) new
-due_changed runs f old new r same stay kept itself as_long are = record {
+due_changed runs f old new r stay kept itself as_long are = record {
   covers = omega (arith, are.covers, as_long, length-changed_at r f runs);
   marked = (λ s x at due.
-      due_unless runs (with_run r f runs) old new r kept itself are stay s x (λ other. at_another r f runs s other)
-      (λ other k le. ap (λ (es : List Admitted). slice_get es k) (events_after f same r runs)) at due);
+      due_unless runs (with_run r f runs) old new r kept itself are stay s x (λ other. at_another r f runs s other) at due);
 }

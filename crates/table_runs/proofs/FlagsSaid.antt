@@ -9,7 +9,7 @@ use Rattle.wf_reader.specs.declared.flag.Flag.{Flag}
 use Rattle.wf_reader.specs.declared.flag.Flag.TheVariants as flag
 use Rattle.run_plan.specs.PlanOf.{plan_of}
 use Rattle.run_plan.specs.declared.planned.PlannedJob.{PlannedJob}
-use Rattle.table_model.specs.Groups.{RunFacts, run_facts_at}
+use Rattle.table_model.specs.Groups.{RunFacts, run_facts, run_facts_at}
 use Rattle.table_model.specs.LegContext.{context_at, continues_on_error, is_set, is_set_for}
 use Rattle.table_model.specs.Runs.{plan_at, run_at, RunState}
 use Rattle.table_model.specs.declared.sites.LegSite.{LegSite}
@@ -20,7 +20,7 @@ use Rattle.table_bindings.specs.BoundGroups.{is_set_by, results_by_index}
 use Rattle.table_bindings.specs.declared.bindings.JobBindings.{JobBindings}
 use Rattle.table_bindings.specs.declared.bindings.RunBindings.{RunBindings}
 use Rattle.table_bindings.specs.declared.groups.BoundFlag.{BoundFlag}
-use Rattle.table_bindings.proofs.BoundSays.{facts_of_run, run_told}
+use Rattle.table_bindings.proofs.BoundSays.{run_told}
 use Rattle.table_runs.proofs.KnownSays.{context_told}
 
 -- whether a failure of a leg of this job is ignored
@@ -80,7 +80,7 @@ pub flag_said : (runs : List RunState) (p : LegSite) (x : RunState) (job : Plann
     → flag_for k p.job p.leg ≡ Some bound → is_set_by (results_by_index x) bound ≡ continues_on_error runs p
 flag_said runs p x job k bound at planned says is =
     let there = planned_there runs p x job at planned in
-    let facts = facts_of_run runs p.run x in
+    let facts = run_facts x in
     let bindings = from_and_then (λ (a : JobBindings). slice_get a.flags p.leg) (slice_get k.jobs p.job) bound is in
     let flags = ((says facts (run_told runs p.run x at)).jobs p.job bindings.value bindings.is job there).flags in
     flags.each p.leg bound bindings.gives (results_by_index x)
@@ -101,7 +101,7 @@ pub nothing_bound : (runs : List RunState) (p : LegSite) (x : RunState) (job : P
     → flag_for k p.job p.leg ≡ None → continues_on_error runs p ≡ false
 nothing_bound runs p x job template k at planned is says none =
     let there = planned_there runs p x job at planned in
-    let said = says (facts_of_run runs p.run x) (run_told runs p.run x at) in
+    let said = says (run_facts x) (run_told runs p.run x at) in
     let inside : p.job < length k.jobs =
     omega (arith, said.as_many, slice_get_within (plan_of x.admitted.body) p.job job there) in
     let bindings = there_within k.jobs p.job inside in

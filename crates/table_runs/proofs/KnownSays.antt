@@ -7,7 +7,7 @@ use Rattle.wf_expr.specs.Bound.{no_results}
 use Rattle.wf_expr.specs.TemplateValue.{Values}
 use Rattle.run_plan.specs.PlanOf.{plan_of}
 use Rattle.run_plan.specs.declared.planned.PlannedJob.{PlannedJob}
-use Rattle.table_model.specs.Groups.{RunFacts, run_facts_at}
+use Rattle.table_model.specs.Groups.{RunFacts, run_facts, run_facts_at}
 use Rattle.table_model.specs.LegContext.{context_at, context_of, nothing, label_texts, labels_at}
 use Rattle.table_model.specs.Runs.{plan_at, run_at, RunState}
 use Rattle.table_model.specs.declared.sites.LegSite.{LegSite}
@@ -22,7 +22,7 @@ use Rattle.table_bindings.specs.declared.bindings.RunBindings.{RunBindings}
 use Rattle.table_bindings.specs.declared.resolved_labels.ResolvedLabels.{ResolvedLabels}
 use Rattle.table_bindings.specs.declared.resolved_labels.ResolvedLabels.TheVariants as wanted
 use Rattle.table_bindings.proofs.Binding.{leg_has_results_at_last}
-use Rattle.table_bindings.proofs.BoundSays.{as_long, facts_of_run, leg_facts_of, leg_told, run_told}
+use Rattle.table_bindings.proofs.BoundSays.{as_long, leg_facts_of, leg_told, run_told}
 use Rattle.table_bindings.proofs.KeptLabels.{kept_whatever}
 use Rattle.table_runs.proofs.PlannedLegs.{PlannedLeg, found_below}
 use Rattle.table_bindings.proofs.ShortLabels.{alike_if_kept}
@@ -30,7 +30,7 @@ use Rattle.table_bindings.proofs.ShortLabels.{alike_if_kept}
 -- ---- the labels of a leg of a table
 
 pub context_told : (runs : List RunState) (p : LegSite) (x : RunState) (job : PlannedJob) → run_at runs p.run ≡ Some x
-    → slice_get (plan_of x.admitted.body) p.job ≡ Some job → context_at runs p ≡ context_of (leg_facts_of runs p x job)
+    → slice_get (plan_of x.admitted.body) p.job ≡ Some job → context_at runs p ≡ context_of (leg_facts_of p x job)
 unfolding context_at
 context_told runs p x job at planned = ap (λ o. option_map_or context_of o nothing) (leg_told runs p x job at planned)
 
@@ -44,13 +44,13 @@ module _ (runs : List RunState) (p : LegSite) (x : RunState) (job : PlannedJob) 
     (at : run_at runs p.run ≡ Some x) (there : slice_get (plan_of x.admitted.body) p.job ≡ Some job)
     (says : (facts : RunFacts) → run_facts_at runs p.run ≡ Some facts → RunSays facts k) (requested : slice_get k.jobs p.job ≡ Some a) where
   abbrev facts : RunFacts
-  facts = facts_of_run runs p.run x
+  facts = run_facts x
 
   said : JobSays facts p.job job a
   said = (says facts (run_told runs p.run x at)).jobs p.job a requested job there
 
   abbrev values : Values
-  values = context_of (leg_facts_of runs p x job)
+  values = context_of (leg_facts_of p x job)
 
   -- the texts of its labels
   abbrev own_texts : List (List ℕ)
@@ -110,7 +110,7 @@ pub labels_kept : (runs : List RunState) (p : LegSite) (x : RunState) (k : RunBi
     → ((facts : RunFacts) → run_facts_at runs p.run ≡ Some facts → RunSays facts k) → PlannedLeg (plan_of x.admitted.body) p.job p.leg
     → OwnLabels runs p x k
 labels_kept runs p x k at says planned =
-    let run = says (facts_of_run runs p.run x) (run_told runs p.run x at) in
+    let run = says (run_facts x) (run_told runs p.run x at) in
     let bindings = as_long (plan_of x.admitted.body) k.jobs p.job planned.job run.as_many planned.is in
     record {
       texts = own_texts runs p x planned.job k bindings.0 at planned.is says bindings.1;

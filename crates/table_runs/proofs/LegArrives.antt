@@ -140,7 +140,7 @@ module _ (runs : List RunState) (p : LegSite) (new : is_new_at runs p ≡ true) 
   pub due_of_leg : (old now : List ℕ) → ((i : ℕ) → is_marked old i ≡ true → is_marked now i ≡ true) → is_marked now p.run ≡ true
       → length now ≡ length old → AreMarked (is_due runs) runs old → AreMarked (is_due next) next now
   due_of_leg old now kept itself as_long are =
-      due_changed runs (with_job_of p.job (with_leg_of p.leg (leg_in_phase leg.Waiting))) old now p.run (λ x. refl) (λ s other none. still s) kept itself
+      due_changed runs (with_job_of p.job (with_leg_of p.leg (leg_in_phase leg.Waiting))) old now p.run (λ s other none. still s) kept itself
       as_long are
 
 -- ---- the runs, as they are seen once it waits

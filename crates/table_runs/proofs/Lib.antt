@@ -37,7 +37,6 @@ mod NobodyYet
 mod NoneActive
 mod NoneOffered
 mod NoneReady
-mod NumberOfRun
 mod OffersList
 mod OneChange
 mod OneHolder
@@ -48,7 +47,6 @@ pub mod ReadThere
 mod ReadyBefore
 mod RunAdded
 mod RunComes
-pub mod RunNumbers
 pub mod SeatSteps
 pub mod Seating
 pub mod SeatsInOrder

@@ -1,21 +1,19 @@
 -- The marks of runs stay valid after each change.
 use Rattle.std.specs.Prelude.{◌≡◌, ℕ, zero, suc, ◌+◌, ◌<◌, ◌≤◌, List, [], ◌∷◌, ◌++◌, length, Bool, true, false, Option, Some, None, nat_eq}
-use Rattle.std.specs.Prelude.{IfNone, IfSome, is_some, option_and_then, option_map, slice_get, slice_set, if◌then◌else◌, refl}
+use Rattle.std.specs.Prelude.{IfNone, IfSome, is_some, option_and_then, slice_get, slice_set, if◌then◌else◌, refl}
 use Rattle.std.specs.Option.{option_map_or}
 use Rattle.std.proofs.Common.{arith, ap, sym, subst, ◌∙◌, inl, inr, length-append, length-set}
 use Rattle.std.proofs.lemmas.Bool.{and_parts, cases_Bool, cases_eq, true≢false}
 use Rattle.std.proofs.lemmas.Bool.Decides.{Decides-eqb}
-use Rattle.std.proofs.lemmas.Option.{slice_get-map, slice_get_past, slice_get_within}
+use Rattle.std.proofs.lemmas.Option.{slice_get_past}
 use Rattle.run_marks.specs.Marked.{Covers, Puts, SameMarks, is_marked}
 use Rattle.table_model.specs.Groups.{holds, is_in}
 use Rattle.table_model.specs.Holders.{run_of}
 use Rattle.table_model.specs.inner.Resuming.{apply_at}
 use Rattle.table_model.specs.Runs.{run_at, RunState}
-use Rattle.table_model.specs.LegContext.{events}
 use Rattle.table_model.specs.inner.WithinRun.{first_in_run}
 use Rattle.table_model.specs.declared.sites.RuleSite.{RuleSite}
 use Rattle.table_model.proofs.Found.{before_the_end}
-use Rattle.table_model.proofs.LegFacts.{SameUpTo}
 use Rattle.settling_laws.specs.inner.Releases.{ReleasesNone}
 use Rattle.table_runs.specs.inner.MarkedRuns.{AreMarked, is_due}
 use Rattle.settling_laws.specs.inner.RunFacts.{is_so_at}
@@ -131,39 +129,31 @@ module _ (runs next : List RunState) (old new : List ℕ) (r : ℕ) (kept : (i :
     (itself : is_marked new r ≡ true) (are : AreMarked (is_due runs) runs old)
     (stay : (s : ℕ) → (s ≡ r → ⊥) → is_marked new s ≡ false → RunsStillFor runs next s) where
   kept_back_due : (s : ℕ) (x : RunState) → RunsStillFor runs next s → slice_get runs s ≡ Some x → slice_get next s ≡ slice_get runs s
-      → SameUpTo s (events next) (events runs) → is_due next s x ≡ true → is_marked new s ≡ true
-  kept_back_due s x still was same upto due =
+      → is_due next s x ≡ true → is_marked new s ≡ true
+  kept_back_due s x still was same due =
       let back : KeepsBackIn runs next s =
       λ h of_run waiting e. back_still runs next h (still h of_run waiting)
-      (same_group runs next h (subst (λ k. SameUpTo k (events next) (events runs)) (sym of_run) upto)
-      (subst (λ k. slice_get next k ≡ slice_get runs k) (sym of_run) same)) e in
+      (same_group runs next h (subst (λ k. slice_get next k ≡ slice_get runs k) (sym of_run) same)) e in
       elim (first_in_run runs s x) as (λ o. first_in_run runs s x ≡ o → is_marked new s ≡ true) [
         | None ↦ λ is. absurd (true≢false (sym due ∙ ap is_some (run_rests runs next s back x was is)))
         | Some p ↦ λ is. kept s (are.marked s x was (ap is_some is))
       ] refl
 
   still_due : (s : ℕ) (x : RunState) → (s ≡ r → ⊥) → slice_get runs s ≡ Some x → slice_get next s ≡ slice_get runs s
-      → SameUpTo s (events next) (events runs) → is_due next s x ≡ true → is_marked new s ≡ true
-  still_due s x other was same upto due =
+      → is_due next s x ≡ true → is_marked new s ≡ true
+  still_due s x other was same due =
       elim (cases_Bool (is_marked new s)) [
         | inl marked ↦ marked
-        | inr none ↦ kept_back_due s x (stay s other none) was same upto due
+        | inr none ↦ kept_back_due s x (stay s other none) was same due
       ]
 
-  pub due_unless : (s : ℕ) (x : RunState) → ((s ≡ r → ⊥) → slice_get next s ≡ slice_get runs s)
-      → ((s ≡ r → ⊥) → SameUpTo s (events next) (events runs)) → slice_get next s ≡ Some x
+  pub due_unless : (s : ℕ) (x : RunState) → ((s ≡ r → ⊥) → slice_get next s ≡ slice_get runs s) → slice_get next s ≡ Some x
       → is_due next s x ≡ true → is_marked new s ≡ true
-  due_unless s x same upto at due =
+  due_unless s x same at due =
       elim (cases_eq s r) [
         | inl here ↦ subst (λ i. is_marked new i ≡ true) (sym here) itself
-        | inr other ↦ still_due s x other (sym (same other) ∙ at) (same other) (upto other) due
+        | inr other ↦ still_due s x other (sym (same other) ∙ at) (same other) due
       ]
-
-pub events_before : (runs : List RunState) (y : RunState) (s : ℕ) → s < length runs → SameUpTo s (events (runs ++ y ∷ [])) (events runs)
-events_before runs y s lt k le =
-    slice_get-map (λ (run : RunState). run.admitted) (runs ++ y ∷ []) k
-    ∙ ap (option_map (λ (run : RunState). run.admitted)) (before_the_end runs y k (λ e. absurd (omega (arith, lt, le, e))))
-    ∙ sym (slice_get-map (λ (run : RunState). run.admitted) runs k)
 
 -- one more run releases no holder
 one_more_stays : (runs : List RunState) (y : RunState) → ReleasesNone runs (runs ++ y ∷ [])
@@ -173,7 +163,7 @@ one_more_stays runs y g h e =
     let within = holder_within runs h there in
     let at : run_at next (run_of h) ≡ run_at runs (run_of h) =
     before_the_end runs y (run_of h) (λ e. absurd (omega (arith, within, e))) in
-    runs_still runs next g h (same_group runs next h (events_before runs y (run_of h) within) at)
+    runs_still runs next g h (same_group runs next h at)
     (λ held k group. same_holds runs next h at ∙ held) e
 
 -- one more run
@@ -184,8 +174,5 @@ due_more runs y old new r end room kept itself are = record {
   covers = omega (arith, room, end, length-append runs (y ∷ []));
   marked = (λ s x at due.
       due_unless runs (runs ++ y ∷ []) old new r kept itself are (λ k other none h of_run waiting g group. one_more_stays runs y g) s x
-      (λ other. before_the_end runs y s (λ e. other (e ∙ sym end)))
-      (λ other.
-      let was = sym (before_the_end runs y s (λ e. other (e ∙ sym end))) ∙ at in
-      events_before runs y s (slice_get_within runs s x was)) at due);
+      (λ other. before_the_end runs y s (λ e. other (e ∙ sym end))) at due);
 }

@@ -14,7 +14,7 @@ use Rattle.table_model.specs.declared.sites.LegSite.{LegSite}
 use Rattle.table_model.proofs.Changed.{at_another, length-changed_at}
 use Rattle.table_model.proofs.JobKeeps.{leg_elsewhere, leg_in, with_job_of, with_leg_of}
 use Rattle.table_model.proofs.RunFits.{RunsFit}
-use Rattle.table_model.proofs.Settles.{StayFit, same_events}
+use Rattle.table_model.proofs.Settles.{StayFit}
 use Rattle.table_model.proofs.Transitions.{with_leg_read}
 use Rattle.settling_laws.proofs.GroupStays.{leg_cancels_stays, run_facts_stay}
 use Rattle.settling_laws.proofs.HoldersFade.{Weakens, by_run, leg_before, leg_change_weakens, leg_passes, job_passes, passed_changed, passes, run_passes}
@@ -78,8 +78,7 @@ pub cancels_stay : (runs next : List RunState) → RunsFit runs → StayFit runs
     → cancels_in_progress next h ≡ cancels_in_progress runs h
 unfolding cancels_in_progress
 cancels_stay runs next fit stay (Run r) there =
-    ap (λ o. option_map_or run_cancels o false)
-    (run_facts_stay runs next r (same_events runs next r (λ s le. stay.same_admitted s)) (stay.same_attempt r))
+    ap (λ o. option_map_or run_cancels o false) (run_facts_stay runs next r (stay.same_identity r) (stay.same_attempt r))
 cancels_stay runs next fit stay (Leg p) there = leg_cancels_stays runs next fit stay p there.0 there.1
 
 pub same_holders : (runs : List RunState) (r : ℕ) (f : RunState → RunState) → RunsFit runs → StayFit runs (with_run r f runs) → AddsNothing f

@@ -39,11 +39,10 @@ use Rattle.table_runs.proofs.FlagsSaid.{some_within}
 use Rattle.settling_laws.proofs.KeptBack.{RunsStillFor}
 use Rattle.settling_laws.proofs.GroupStays.{run_facts_stay}
 use Rattle.settling_laws.proofs.SoundRuns.{runs_that_fit}
-use Rattle.table_runs.proofs.Stays.{changed_admitted}
 use Rattle.table_runs.specs.inner.GroupsKept.{AreTold, GroupsAreKept, arrivals_to_come, is_blocked_at, is_unopened}
 use Rattle.table_runs.specs.inner.MarkedRuns.{AreMarked, is_due}
 use Rattle.table_runs.specs.inner.RowsKept.{IsUndecided, keys_decided}
-use Rattle.table_runs.proofs.DueStill.{due_changed, events_after}
+use Rattle.table_runs.proofs.DueStill.{due_changed}
 use Rattle.table_runs.proofs.FirstRules.{opens, opens_where}
 use Rattle.table_runs.proofs.Opening.{kept_opened, results_same, still_opened}
 
@@ -128,9 +127,7 @@ module _ (runs : List RunState) (bindings : List RunBindings) (r j : ℕ) (sound
     results = ap (λ rs. λ (i : ℕ). slice_index_or rs i None) (results_same runs r j n (job_unopened runs r j sound first) found.x found.there)
 
     facts_stay : run_facts_at next r ≡ run_facts_at runs r
-    facts_stay =
-        run_facts_stay runs next r
-        (λ k le. ap (λ es. slice_get es k) (events_after (with_job_of j (opened n)) (λ y. refl) r runs)) (stay.same_attempt r)
+    facts_stay = run_facts_stay runs next r (stay.same_identity r) (stay.same_attempt r)
 
     says_after : (p : LegSite) → p.run ≡ r → SaysBoth next (Leg p) found.x found.kept
     says_after p is_r =
@@ -154,7 +151,7 @@ module _ (runs : List RunState) (bindings : List RunBindings) (r j : ℕ) (sound
         → AreMarked (is_due runs) runs old
         → AreMarked (is_due (with_run r (changed (change.Open j)) runs)) (with_run r (changed (change.Open j)) runs) new
     due_open old new kept itself as_long are =
-        due_changed runs (changed (change.Open j)) old new r (changed_admitted (change.Open j))
+        due_changed runs (changed (change.Open j)) old new r
         (λ s other none.
         subst (λ rs. RunsStillFor runs rs s) (sym (opened_is runs r j))
         (still_opened runs bindings r j n found.x found.kept found.legs (job_unopened runs r j sound first) found.there found.at found.its_legs (runs_that_fit runs sound) stay says_after s))

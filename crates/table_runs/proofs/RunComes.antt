@@ -28,7 +28,6 @@ use Rattle.settling_laws.proofs.SoundRuns.{runs_that_fit}
 use Rattle.table_runs.specs.inner.Arriving.{ExactBeside, waits_beside}
 use Rattle.table_runs.specs.inner.GroupsKept.{AreExact, is_there}
 use Rattle.table_runs.proofs.Arriving.{itself_beside, others_as_before}
-use Rattle.table_runs.proofs.DueStill.{events_after}
 use Rattle.table_runs.proofs.GroupsHeld.{Entries}
 use Rattle.table_runs.proofs.HoldersThere.{tells, there_if_holds, there_if_waits}
 use Rattle.table_runs.proofs.Stored.{group_before}
@@ -194,7 +193,7 @@ again_beside runs r x entries sound begun there ended =
     exact_beside_it runs next r (again x) entries begun (at_changed r again runs ∙ ap (option_map again) there) refl
     (quiet_ended runs r x sound there ended) (at_another r again runs)
     (λ h other is_there_now.
-    same_group runs next h (λ k le. ap (λ es. slice_get es k) (events_after again (λ y. refl) r runs)) (at_another r again runs (run_of h) other))
+    same_group runs next h (at_another r again runs (run_of h) other))
 
 -- ---- a run that begins its next attempt held nothing, so whoever holds a group still holds it
 
@@ -207,6 +206,6 @@ again_still runs r x sound there ended s h of_run waiting g group k e =
       | inl same ↦ absurd (true≢false (sym held ∙ (quiet_ended runs r x sound there ended k same).1))
       | inr other ↦
           runs_still runs next g k
-          (same_group runs next k (λ i le. ap (λ es. slice_get es i) (events_after again (λ y. refl) r runs)) (at_another r again runs (run_of k) other))
+          (same_group runs next k (at_another r again runs (run_of k) other))
           (λ holding kept of_group. same_holds runs next k (at_another r again runs (run_of k) other) ∙ holding) e
     ]

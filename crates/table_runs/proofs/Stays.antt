@@ -1,22 +1,15 @@
--- A change of a run keeps what was admitted, and the attempt.
+-- A change of a run keeps what its templates use of the run itself.
 use Rattle.std.specs.Prelude.{◌≡◌, refl}
 use Rattle.table_model.specs.Changes.{changed}
+use Rattle.table_model.specs.Groups.{run_facts}
 use Rattle.table_model.specs.Runs.{RunState}
 use Rattle.table_model.specs.declared.change.Change.{Change}
 use Rattle.table_model.specs.declared.change.Change.TheVariants as change
 
-pub changed_admitted : (c : Change) (run : RunState) → (changed c run).admitted ≡ run.admitted
-changed_admitted (change.Phase phase) run = refl
-changed_admitted (change.Open j) run = refl
-changed_admitted (change.Settle j settled) run = refl
-changed_admitted change.Cancel run = refl
-changed_admitted change.RequestStop run = refl
-changed_admitted (change.PutLeg j l leg) run = refl
-
-pub changed_attempt : (c : Change) (run : RunState) → (changed c run).attempt ≡ run.attempt
-changed_attempt (change.Phase phase) run = refl
-changed_attempt (change.Open j) run = refl
-changed_attempt (change.Settle j settled) run = refl
-changed_attempt change.Cancel run = refl
-changed_attempt change.RequestStop run = refl
-changed_attempt (change.PutLeg j l leg) run = refl
+pub changed_facts : (c : Change) (run : RunState) → run_facts (changed c run) ≡ run_facts run
+changed_facts (change.Phase phase) run = refl
+changed_facts (change.Open j) run = refl
+changed_facts (change.Settle j settled) run = refl
+changed_facts change.Cancel run = refl
+changed_facts change.RequestStop run = refl
+changed_facts (change.PutLeg j l leg) run = refl

@@ -1,5 +1,5 @@
 -- The runs of a table that was stored are added one after the other.
-use Rattle.std.specs.Prelude.{◌≡◌, ◌+◌, ◌<◌, ◌≤◌, ◌++◌, ◌∷◌, [], ℕ, List, length, take, true, Option, option_and_then, slice_get, is_some}
+use Rattle.std.specs.Prelude.{◌≡◌, ◌<◌, ◌≤◌, ◌++◌, ◌∷◌, [], ℕ, List, length, true, Option, option_and_then, slice_get, is_some}
 use Rattle.std.proofs.Common.{arith, ap, inl, inr, sym, ◌∙◌}
 use Rattle.std.proofs.lemmas.Bool.{cases_eq}
 use Rattle.group_book.specs.Books.{BookState}
@@ -16,7 +16,6 @@ use Rattle.table_runs.specs.inner.GroupsKept.{AreTold, arrivals_to_come, is_ther
 use Rattle.table_runs.specs.inner.RowsKept.{RowState}
 use Rattle.table_runs.specs.inner.Seating.{AreStored}
 use Rattle.table_runs.proofs.HoldersThere.{within_there}
-use Rattle.table_runs.proofs.MarkedRuns.{events_before}
 use Rattle.settling_laws.proofs.GroupStays.{same_group}
 
 -- a holder of an earlier run is as it was
@@ -32,28 +31,26 @@ there_before runs y (Leg p) other =
 pub group_before : (runs : List RunState) (y : RunState) (h : Holder) → is_there runs h ≡ true → group_at (runs ++ y ∷ []) h ≡ group_at runs h
 group_before runs y h there =
     let within = within_there runs h there in
-    same_group runs (runs ++ y ∷ []) h (events_before runs y (run_of h) within)
-    (before_the_end runs y (run_of h) (λ e. absurd (omega (arith, within, e))))
+    same_group runs (runs ++ y ∷ []) h (before_the_end runs y (run_of h) (λ e. absurd (omega (arith, within, e))))
 
-pub one_more_stored : (parts : List RunState) (r : ℕ) (part : RunState) (was now : RowState) (old new : BookState Holder)
-    → AreStored (take r parts) was old → now.runs ≡ was.runs ++ part ∷ [] → now.runs ≡ take (r + 1) parts
+pub one_more_stored : (run : RunState) (was now : RowState) (old new : BookState Holder) → AreStored was old
+    → now.runs ≡ was.runs ++ run ∷ []
     → (AreTold was.runs was.bindings → AreTold now.runs now.bindings) → HaveTickets (length was.runs) now.runs now.bindings
     → ((k : ℕ) → k < length was.runs → slice_get now.bindings k ≡ slice_get was.bindings k)
     → (arrivals_to_come was.bindings ≤ old.expected → arrivals_to_come now.bindings ≤ new.expected)
-    → AreStored (take (r + 1) parts) now new
-one_more_stored parts r part was now old new stored added runs told tickets older expected = record {
-  runs = runs;
+    → AreStored now new
+one_more_stored run was now old new stored added told tickets older expected = record {
   told = told stored.told;
   keys = λ h there.
       elim (cases_eq (run_of h) (length was.runs)) [
         | inl here ↦ tickets h here there
         | inr other ↦
             let before : is_there was.runs h ≡ true =
-            sym (there_before was.runs part h other) ∙ ap (λ rs. is_there rs h) (sym added) ∙ there in
+            sym (there_before was.runs run h other) ∙ ap (λ rs. is_there rs h) (sym added) ∙ there in
             ap (λ o. option_and_then ticket_in (option_and_then (λ (kept : RunBindings). holder_key kept.keys h) o))
             (older (run_of h) (within_there was.runs h before))
             ∙ stored.keys h before
-            ∙ sym (ap (λ rs. group_at rs h) added ∙ group_before was.runs part h before)
+            ∙ sym (ap (λ rs. group_at rs h) added ∙ group_before was.runs run h before)
       ];
   expected = expected stored.expected;
 }

@@ -12,13 +12,11 @@ use Rattle.table_model.specs.Groups.{group_at}
 use Rattle.table_model.specs.Holders.{run_of}
 use Rattle.table_model.specs.Runs.{again, blocked_job, run_at, with_run, JobState, LegState, RunState, is_blocked, is_new}
 use Rattle.table_model.specs.inner.Resuming.{is_new_at}
-use Rattle.table_model.specs.LegContext.{events}
 use Rattle.table_model.specs.declared.holder.Holder.{Holder}
 use Rattle.table_model.specs.declared.holder.Holder.TheVariants.{Run, Leg}
 use Rattle.table_model.specs.declared.sites.LegSite.{LegSite}
 use Rattle.table_model.proofs.Changed.{at_another, at_changed}
 use Rattle.table_model.proofs.Found.{at_the_end, before_the_end}
-use Rattle.table_model.proofs.LegFacts.{SameUpTo}
 use Rattle.table_bindings.specs.BoundGroups.{results_by_index}
 use Rattle.table_bindings.specs.Bindings.{AreBound}
 use Rattle.table_bindings.specs.GroupKeys.{AllAreLater, AreLater, decided, holder_key, key_in, requests_of, ticket_in}
@@ -31,9 +29,8 @@ use Rattle.table_runs.specs.inner.Begun.{AreKnownIf, HaveTickets, IsBegun, IsBeg
 use Rattle.table_runs.specs.inner.GroupsKept.{AreTold, Knows, is_blocked_at, is_there, is_unopened}
 use Rattle.table_runs.specs.inner.RowsKept.{holder_key_at}
 use Rattle.table_runs.proofs.Begun.{begun_has_ticket, begun_knows}
-use Rattle.table_runs.proofs.DueStill.{events_after}
-use Rattle.table_runs.proofs.HoldersThere.{there_if_new, within_there}
-use Rattle.table_runs.proofs.MarkedRuns.{events_before, set_other}
+use Rattle.table_runs.proofs.HoldersThere.{there_if_new}
+use Rattle.table_runs.proofs.MarkedRuns.{set_other}
 use Rattle.table_runs.proofs.NextAttempt.{NextOf, put}
 use Rattle.table_runs.proofs.StillBound.{set_here}
 
@@ -103,8 +100,7 @@ same_blocked runs next r j at =
 module _ (runs next : List RunState) (kept now : List RunBindings) (r : ℕ) (x : RunState) (b : RunBindings) (there : run_at next r ≡ Some x)
     (row : slice_get now r ≡ Some b) (begun : IsBegun x b) (says : (h : Holder) → run_of h ≡ r → SaysBoth next h x b)
     (other_runs : (s : ℕ) → (s ≡ r → ⊥) → run_at next s ≡ run_at runs s)
-    (other_rows : (s : ℕ) → (s ≡ r → ⊥) → slice_get now s ≡ slice_get kept s)
-    (same : (s : ℕ) → (s ≡ r → ⊥) → s < length runs → SameUpTo s (events next) (events runs)) where
+    (other_rows : (s : ℕ) → (s ≡ r → ⊥) → slice_get now s ≡ slice_get kept s) where
   pub has_tickets : HaveTickets r next now
   has_tickets h of_run is =
       begun_has_ticket next now x b begun h (ap (run_at next) of_run ∙ there) (ap (slice_get now) of_run ∙ row) is (says h of_run)
@@ -112,18 +108,16 @@ module _ (runs next : List RunState) (kept now : List RunBindings) (r : ℕ) (x 
   same_key : (h : Holder) → (run_of h ≡ r → ⊥) → holder_key_at now h ≡ holder_key_at kept h
   same_key h other = ap (option_and_then (λ (k : RunBindings). holder_key k.keys h)) (other_rows (run_of h) other)
 
-  group_as_before : (h : Holder) → (run_of h ≡ r → ⊥) → is_there runs h ≡ true → group_at next h ≡ group_at runs h
-  group_as_before h other was =
-      same_group runs next h (same (run_of h) other (within_there runs h was)) (other_runs (run_of h) other)
+  group_as_before : (h : Holder) → (run_of h ≡ r → ⊥) → group_at next h ≡ group_at runs h
+  group_as_before h other = same_group runs next h (other_runs (run_of h) other)
 
-  knew : (h : Holder) → (run_of h ≡ r → ⊥) → is_there runs h ≡ true → Knows runs kept h → Knows next now h
-  knew h other was knows =
+  knew : (h : Holder) → (run_of h ≡ r → ⊥) → Knows runs kept h → Knows next now h
+  knew h other knows =
       let key = same_key h other in
       record {
-        group = ap (option_and_then key_in) key ∙ knows.group ∙ sym (group_as_before h other was);
+        group = ap (option_and_then key_in) key ∙ knows.group ∙ sym (group_as_before h other);
         cancels = (λ known e.
-            knows.cancels known (sym key ∙ e)
-            ∙ sym (same_flag runs next h (same (run_of h) other (within_there runs h was)) (other_runs (run_of h) other)));
+            knows.cancels known (sym key ∙ e) ∙ sym (same_flag runs next h (other_runs (run_of h) other)));
       }
 
   its_room : (s j : ℕ) (k : RunBindings) (legs : List HolderKey) → s ≡ r → is_blocked_at next s j ≡ true → slice_get now s ≡ Some k
@@ -146,7 +140,7 @@ module _ (runs next : List RunState) (kept now : List RunBindings) (r : ℕ) (x 
               begun_knows next now x b begun h (ap (run_at next) here ∙ there) (ap (slice_get now) here ∙ row) is (says h here)
           | inr other ↦
               let was : is_there runs h ≡ true = sym (same_there runs next h (other_runs (run_of h) other)) ∙ is in
-              knew h other was (told.groups h was)
+              knew h other (told.groups h was)
         ]);
     tickets = (λ p is_new.
         elim (cases_eq p.run r) [
@@ -154,7 +148,7 @@ module _ (runs next : List RunState) (kept now : List RunBindings) (r : ℕ) (x 
           | inr other ↦
               let was : is_new_at runs p ≡ true = sym (same_new runs next p (other_runs p.run other)) ∙ is_new in
               ap (option_and_then ticket_in) (same_key (Leg p) other) ∙ told.tickets p was
-              ∙ sym (group_as_before (Leg p) other (there_if_new runs p was))
+              ∙ sym (group_as_before (Leg p) other)
         ]);
     room = (λ s j k legs blocked at job.
         elim (cases_eq s r) [
@@ -189,12 +183,11 @@ module _ (runs : List RunState) (x : RunState) (kept : List RunBindings) (b : Ru
   pub told_added : AreTold runs kept → AreTold (runs ++ x ∷ []) (kept ++ b ∷ [])
   told_added =
       told_more runs (runs ++ x ∷ []) kept (kept ++ b ∷ []) (length runs) x b (at_the_end runs x) its_row begun its_says (before_the_end runs x) rows_before
-      (λ s other less. events_before runs x s less)
 
   pub tickets_added : HaveTickets (length runs) (runs ++ x ∷ []) (kept ++ b ∷ [])
   tickets_added =
       has_tickets runs (runs ++ x ∷ []) kept (kept ++ b ∷ []) (length runs) x b (at_the_end runs x) its_row begun its_says (before_the_end runs x)
-      rows_before (λ s other less. events_before runs x s less)
+      rows_before
 
   pub older_added : (s : ℕ) → s < length runs → slice_get (kept ++ b ∷ []) s ≡ slice_get kept s
   older_added s less = rows_before s (λ e. absurd (omega (arith, less, e)))
@@ -212,18 +205,15 @@ module _ (runs : List RunState) (r : ℕ) (x : RunState) (kept : List RunBinding
       said_there (with_run r again runs) h (again x) b r (sym of_run) (ap (run_at (with_run r again runs)) of_run ∙ now_there)
       (λ facts is. bound.each r facts b is row)
 
-  same_events_again : (s : ℕ) → (s ≡ r → ⊥) → s < length runs → SameUpTo s (events (with_run r again runs)) (events runs)
-  same_events_again s other less = λ k le. ap (λ es. slice_get es k) (events_after again (λ y. refl) r runs)
-
   pub told_again : AreTold runs kept → AreTold (with_run r again runs) (slice_set kept r b)
   told_again =
       told_more runs (with_run r again runs) kept (slice_set kept r b) r (again x) b now_there row begun again_says (at_another r again runs)
-      (λ s other. set_other kept r s b other) same_events_again
+      (λ s other. set_other kept r s b other)
 
   pub tickets_again : HaveTickets r (with_run r again runs) (slice_set kept r b)
   tickets_again =
       has_tickets runs (with_run r again runs) kept (slice_set kept r b) r (again x) b now_there row begun again_says (at_another r again runs)
-      (λ s other. set_other kept r s b other) same_events_again
+      (λ s other. set_other kept r s b other)
 
 -- both, of the run as it is put in its place
 pub next_told : (runs : List RunState) (r : ℕ) (kept : List RunBindings) (b : RunBindings) (next : RunState) → NextOf runs r next

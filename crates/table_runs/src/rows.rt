@@ -3,7 +3,6 @@
 
 ghost use Rattle.std.specs.Prelude.{◌≡◌, ◌≤◌, ◌<◌, ◌+◌, ◌*◌, [], length, sum_by, IfOk, IfSome, OnErr, OnOk, option_and_then, option_copied, option_map};
 ghost use Rattle.std.specs.Prelude.{Ok, Some, false, slice_get};
-ghost use Rattle.std.specs.Fmt.{decimal};
 ghost use Rattle.std.specs.List.{position};
 ghost use Rattle.std.specs.Option.{option_map_or};
 ghost use Rattle.definitions.specs.Limits.{max_runs};
@@ -18,8 +17,8 @@ ghost use Rattle.table_bindings.specs.declared.group_keys.HolderKey.TheVariants 
 ghost use Rattle.table_bindings.specs.declared.group_keys.KnownGroup.{KnownGroup as KnownInCode};
 ghost use Rattle.table_model.specs.Changes.{changed};
 ghost use Rattle.table_model.specs.Runs.{is_delivered_as, job_at, leg_at, run_at, with_run};
-ghost use Rattle.table_model.specs.Groups.{holds, waits};
-ghost use Rattle.table_model.specs.LegContext.{events, number_of_next, run_number};
+ghost use Rattle.table_model.specs.Groups.{holds, run_facts, waits};
+ghost use Rattle.table_model.specs.LegContext.{number_of_next};
 ghost use Rattle.table_runs.specs.inner.Begun.{AddsOrStays, IsBegun, IsBegunBelow, has_legs_at};
 ghost use Rattle.table_runs.specs.inner.GroupsKept.{arrivals_to_come};
 ghost use Rattle.table_runs.specs.StoredSizes.{max_run_size, run_size};
@@ -42,18 +41,26 @@ use group_book::Book;
 use group_name::GroupKey;
 use label_lists::LabelLists;
 use run_marks::RunBitmap;
-use run_plan::DeliveryId;
+use run_plan::{DeliveryId, Number, Prepared};
 use std::alloc::Global;
 use std::marker::Model;
 use table_bindings::RunBindings;
 use table_model::{Change, Holder, Job, Leg, LegSite, Run};
 use wf_value::{Code, Refusal, TryCopy, copy_items};
 
+/// The run that comes next: its workflow, its id, its number among the runs of the workflow, and the index of the latest of them. No
+/// contract mentions the index.
+#[derive(Drop)]
+pub(crate) struct ComingRun {
+    pub workflow: Workflow,
+    pub id: Number,
+    pub number: Number,
+    pub latest: Option<usize>,
+}
+
 /// The runs, in the order of their ids, with what is kept of each. A contract sees the runs and their bindings as lists.
 pub(crate) struct Rows {
     pub(crate) runs: Vec<Run>,
-    /// The number of each run, among the runs of its workflow.
-    pub(crate) numbers: Vec<usize>,
     /// What each run and its legs ask of concurrency groups and of runners.
     pub(crate) bindings: Vec<RunBindings>,
     pub(crate) index: Index,
@@ -71,7 +78,7 @@ impl Model for Rows {
 
     ghost view = { λ r. record { runs = r.runs.items; bindings = r.bindings.items } };
 
-    ghost invariant = { λ r. RunsAreKept r.runs.items r.numbers.items r.bindings.items r.index r.active × IsSizeOf r.runs.items r.text };
+    ghost invariant = { λ r. RunsAreKept r.runs.items r.bindings.items r.index r.active × IsSizeOf r.runs.items r.text };
 }
 
 impl Rows {
@@ -81,7 +88,6 @@ impl Rows {
     {
         Rows {
             runs: Vec::new(alloc),
-            numbers: Vec::new(alloc),
             bindings: Vec::new(alloc),
             index: Index::new(alloc),
             active: RunBitmap::new(alloc),
@@ -112,13 +118,6 @@ impl Rows {
         self.as_slice().get(r)
     }
 
-    /// The number of run `r` among the runs of its workflow.
-    pub(crate) fn number(&self, r: usize) -> Option<usize>
-        ensures { result ≡ option_map (run_number (events self.now.runs) r) (slice_get (events self.now.runs) r) }
-    {
-        number_at(&self.numbers, r)
-    }
-
     /// The index of the first run of the delivery.
     pub(crate) fn position(&self, delivery: &DeliveryId) -> Option<usize>
         ensures found { result ≡ position (is_delivered_as delivery.now) self.now.runs }
@@ -127,22 +126,48 @@ impl Rows {
         self.index.deliveries.index_of(delivery)
     }
 
-    /// Adds a run at the end, with its number and its bindings, and takes the memory for the arrivals of the run and of its legs. On an
-    /// `Err` nothing has changed.
+    /// What the run is that an event makes next. It takes no memory.
+    pub(crate) fn coming(&self, event: &Prepared) -> Result<ComingRun, Refusal>
+        requires { length self.now.runs < max_runs }
+        ensures err { ErrsOnlyByMemory result }
+        ensures workflow { IfOk result (λ coming. coming.workflow ≡ event.now) }
+        ensures id { IfOk result (λ coming. coming.id ≡ length self.now.runs + 1) }
+        ensures number { IfOk result (λ coming. coming.number ≡ number_of_next self.now.runs event.now) }
+    {
+        let workflow = Workflow::of(event)?;
+        let counted = self.index.counts.next(&workflow);
+        let r = self.as_slice().len();
+        Ok(ComingRun {
+            workflow,
+            id: Number::new(r as u32 + 1),
+            number: Number::new(counted.number as u32),
+            latest: counted.latest,
+        })
+    }
+
+    /// Adds a run at the end, with its bindings, and takes the memory for the arrivals of the run and of its legs. On an `Err` nothing has
+    /// changed.
     pub(crate) fn add(
         &mut self,
         alloc: Global,
         run: Run,
+        coming: ComingRun,
         book: &mut Book<Holder>,
     ) -> Result<(), Refusal>
-        requires { length self.old.runs < max_runs }
+        requires room { length self.old.runs < max_runs }
+        requires workflow { coming.workflow ≡ run.admitted }
+        requires number { coming.number ≡ number_of_next self.old.runs run.admitted }
         ensures err { ErrsOnlyByMemory result }
         ensures adds { AddsOrStays result run self.old self.new book.old book.new }
     {
-        let workflow = Workflow::of(run.prepared())?;
-        let coming = self.index.counts.next(&workflow);
-        let run = self.sharing(run, coming.latest);
-        self.add_numbered(alloc, run, workflow, coming.number, coming.latest, book)
+        let ComingRun {
+            workflow,
+            number,
+            latest,
+            ..
+        } = coming;
+        let run = self.sharing(run, latest);
+        self.add_numbered(alloc, run, workflow, number, latest, book)
     }
 
     /// The run, which refers to the copy of its workflow that run `latest` refers to, if they are the same.
@@ -156,13 +181,13 @@ impl Rows {
         run
     }
 
-    /// Adds a run of this workflow, which gets this number. What was bound alike for run `latest` is kept once.
+    /// Adds a run of this workflow, whose count is this number from then on. What was bound alike for run `latest` is kept once.
     fn add_numbered(
         &mut self,
         alloc: Global,
         run: Run,
         workflow: Workflow,
-        number: usize,
+        number: Number,
         latest: Option<usize>,
         book: &mut Book<Holder>,
     ) -> Result<(), Refusal>
@@ -174,19 +199,17 @@ impl Rows {
     {
         let delivery = self.index.make_room(alloc, run.prepared().delivery())?;
         self.runs.reserve(1)?;
-        self.numbers.reserve(1)?;
         self.bindings.reserve(1)?;
         let r = self.runs.len();
         self.active.reserve_up_to(r + 1)?;
         self.index.lists.reserve_up_to(r + 1)?;
         let like = latest_in(&self.bindings, latest);
-        let bindings = bind(alloc, &run, number, &mut self.index.lists, r, like)?;
+        let bindings = bind(alloc, &run, &mut self.index.lists, r, like)?;
         expect(book, &bindings)?;
         self.text += run_size(&run);
         offer_run(&mut self.index.lists, &bindings, r, &run);
         self.active.mark(r);
         self.runs.push_reserved(run);
-        self.numbers.push_reserved(number);
         self.bindings.push_reserved(bindings);
         self.index.enter(delivery, workflow, number, r);
         Ok(())
@@ -329,7 +352,6 @@ impl Rows {
     {
         Ok(Rows {
             runs: copy_items(alloc, &self.runs)?,
-            numbers: Vec::from_slice(alloc, self.numbers.as_slice())?,
             bindings: copy_items(alloc, &self.bindings)?,
             index: self.index.copy(alloc)?,
             active: self.active.copy()?,
@@ -343,21 +365,11 @@ fn latest_in<T>(items: &[T], latest: Option<usize>) -> Option<&T> {
     items.get(latest?)
 }
 
-fn number_at(numbers: &[usize], r: usize) -> Option<usize>
-    ensures { result ≡ slice_get numbers.now r }
-{
-    match numbers.get(r) {
-        Some(number) => Some(*number),
-        None => None,
-    }
-}
-
-/// What run `r`, which has this number, and its legs ask for, bound now. The groups of the legs that it has are decided. What was bound
-/// alike for `like`, another run, is kept once.
+/// What run `r` and its legs ask for, bound now. The groups of the legs that it has are decided. What was bound alike for `like`, another
+/// run, is kept once.
 fn bind(
     alloc: Global,
     run: &Run,
-    number: usize,
     lists: &mut LabelLists,
     r: usize,
     like: Option<&RunBindings>,
@@ -366,16 +378,11 @@ fn bind(
     requires place { HasPlace lists.old 0 r }
     ensures err { ErrsOnlyByMemory result }
     ensures grows { OnlyGrows lists.old lists.new }
-    ensures says { IfOk result (RunSays (record {
-      event = run.now.admitted;
-      run_id = decimal (r + 1);
-      run_number = decimal number;
-      run_attempt = decimal run.now.attempt;
-    })) }
+    ensures says { IfOk result (RunSays (run_facts run.now)) }
     ensures begun { IfOk result (IsBegun run.now) }
     ensures lists { IfOk result (λ bindings. AreListsOf lists.new r bindings.jobs bindings.lists) }
 {
-    let mut bindings = RunBindings::bind(alloc, run, number, lists, r, like)?;
+    let mut bindings = RunBindings::bind(alloc, run, lists, r, like)?;
     decide_begun(&mut bindings, run);
     Ok(bindings)
 }
@@ -434,7 +441,6 @@ impl Drop for Rows {
     fn drop(self) {
         let Self {
             runs: _,
-            numbers: _,
             bindings: _,
             index: _,
             active: _,

@@ -4,7 +4,7 @@ ghost use Rattle.std.specs.List.{position};
 ghost use Rattle.std.specs.Option.{option_map_or};
 ghost use Rattle.definitions.specs.Limits.{max_runs};
 ghost use Rattle.wf_value.specs.Gives.{Gives};
-ghost use Rattle.table_model.specs.LegContext.{facts_at, events, run_number, combo_at, job_id};
+ghost use Rattle.table_model.specs.LegContext.{facts_at, combo_at, job_id};
 ghost use Rattle.table_model.specs.Runs.{is_delivered_as, job_at, leg_at, plan_at, run_at};
 ghost use Rattle.table_model.specs.Fitting.{most_at_work};
 ghost use Rattle.table_runs.specs.StoredSizes.{max_run_size, run_size};
@@ -127,13 +127,6 @@ impl Runs {
         self.planned(r, j)?.max_parallel
     }
 
-    /// The number of run `r` among the runs of its workflow.
-    pub fn number(&self, r: usize) -> Option<usize>
-        ensures { result ≡ option_map (run_number (events self.now) r) (slice_get (events self.now) r) }
-    {
-        self.rows.number(r)
-    }
-
     /// The planned leg at a site.
     #[tactic(auto, unfolding(table_model::specs::LegContext::facts_at))]
     pub(super) fn leg_view(&self, site: LegSite) -> Option<LegView<'_>>
@@ -141,12 +134,9 @@ impl Runs {
         ensures { result ≡ facts_at self.now site }
     {
         let run = self.rows.runs.get(site.run)?;
-        let run_number = self.number(site.run)?;
         let job = run.prepared().plan().as_slice().get(site.job)?;
         Some(LegView {
             run,
-            run_id: site.run + 1,
-            run_number,
             job,
             index: site.job,
             leg: site.leg,

@@ -1,12 +1,13 @@
--- What a table keeps about its runs, apart from the holders of groups: their numbers, their bindings, the indices of their deliveries, the
--- counts of their workflows, their marks as active, and their marks for lists of labels.
-use Rattle.std.specs.Prelude.{◌≡◌, ℕ, List, map, Option, Some, option_and_then, slice_get}
+-- What a table keeps about its runs, apart from the holders of groups: their bindings, the indices of their deliveries, the counts of their
+-- workflows, their marks as active, and their marks for lists of labels.
+use Rattle.std.specs.Prelude.{◌≡◌, ◌≤◌, ℕ, List, length, map, Option, Some, option_and_then, slice_get}
 use Rattle.std.specs.Option.{option_map_or}
+use Rattle.definitions.specs.Limits.{max_runs}
 use Rattle.group_name.specs.Group.{Group}
 use Rattle.table_model.specs.inner.ActiveRuns.{is_active}
 use Rattle.table_model.specs.Runs.{changed_at, RunState}
 use Rattle.table_model.specs.Holders.{run_of}
-use Rattle.table_model.specs.LegContext.{AreNumbered, events}
+use Rattle.table_model.specs.LegContext.{events}
 use Rattle.table_model.specs.declared.holder.Holder.{Holder}
 use Rattle.table_bindings.specs.Bindings.{AreBound}
 use Rattle.table_bindings.specs.BoundGroups.{results_by_index}
@@ -23,8 +24,8 @@ pub record RowState : Type 0 where
   pub runs : List RunState
   pub bindings : List RunBindings
 
-pub record RunsAreKept (runs : List RunState) (numbers : List ℕ) (bindings : List RunBindings) (index : Index) (marks : List ℕ) : Type 0 where
-  pub numbered : AreNumbered runs numbers
+pub record RunsAreKept (runs : List RunState) (bindings : List RunBindings) (index : Index) (marks : List ℕ) : Type 0 where
+  pub few : length runs ≤ max_runs
   pub bound : AreBound runs bindings
   pub found : FindsFirst (events runs) index.deliveries.indexes
   pub counted : AreCounted (events runs) index.counts.counts

@@ -111,8 +111,7 @@ BeginsIf Pending key old new = new ≡ old
 
 -- ---- before anybody has taken a slot
 
-pub record AreStored (parts : List RunState) (rows : RowState) (book : BookState Holder) : Type 0 where
-  pub runs : rows.runs ≡ parts
+pub record AreStored (rows : RowState) (book : BookState Holder) : Type 0 where
   pub told : AreTold rows.runs rows.bindings
   pub keys : (h : Holder) → is_there rows.runs h ≡ true → option_and_then ticket_in (holder_key_at rows.bindings h) ≡ group_at rows.runs h
   pub expected : arrivals_to_come rows.bindings ≤ book.expected

@@ -1,6 +1,6 @@
 //! How many runs there are of each workflow, so that the number of the next run is known without a scan of the runs.
 
-ghost use Rattle.std.specs.Prelude.{◌≡◌, ◌<◌, ◌+◌, IfOk, OnOk, if◌then◌else◌};
+ghost use Rattle.std.specs.Prelude.{◌≡◌, ◌<◌, ◌≤◌, ◌+◌, IfOk, OnOk, if◌then◌else◌};
 ghost use Rattle.definitions.specs.Limits.{max_runs};
 ghost use Rattle.indexmap.specs.IndexMap.{spare};
 ghost use Rattle.wf_value.specs.Gives.{ErrsOnlyByMemory};
@@ -10,6 +10,7 @@ ghost use Rattle.table_runs.specs.inner.Counted.{count_of};
 
 use crate::rows::workflow::Workflow;
 use indexmap::IndexMap;
+use run_plan::Number;
 use std::alloc::Global;
 use wf_value::Refusal;
 
@@ -45,7 +46,8 @@ impl Counts {
     /// What the next run of the workflow is.
     pub(crate) fn next(&self, workflow: &Workflow) -> NextRun
         requires { count_of self.now.counts workflow.now < max_runs }
-        ensures { result.number ≡ count_of self.now.counts workflow.now + 1 }
+        ensures number { result.number ≡ count_of self.now.counts workflow.now + 1 }
+        ensures most { result.number ≤ max_runs }
     {
         match self.counts.get(workflow) {
             Some(counted) => NextRun {
@@ -80,13 +82,13 @@ impl Counts {
     }
 
     /// Counts a run of the workflow: that with this number, at index `r`.
-    pub(crate) fn add(&mut self, workflow: Workflow, number: usize, r: usize)
+    pub(crate) fn add(&mut self, workflow: Workflow, number: Number, r: usize)
         requires { 0 < spare self.old.counts }
         ensures { (event : Admitted) → count_of self.new.counts event
             ≡ (if same_workflow workflow event then number else count_of self.old.counts event) }
     {
         let counted = Counted {
-            runs: number,
+            runs: number.get() as usize,
             latest: r,
         };
         match self.counts.insert(workflow, counted) {

@@ -14,7 +14,7 @@ use crate::rows::counts::Counts;
 use crate::rows::deliveries::DeliveryIndexes;
 use crate::rows::workflow::Workflow;
 use label_lists::LabelLists;
-use run_plan::DeliveryId;
+use run_plan::{DeliveryId, Number};
 use std::alloc::Global;
 use wf_value::{Chars, Refusal};
 
@@ -60,7 +60,7 @@ impl Index {
     }
 
     /// Enters a run of this delivery and workflow: that at index `r`, with this number. An earlier run of the delivery is found as before.
-    pub(crate) fn enter(&mut self, delivery: String, workflow: Workflow, number: usize, r: usize)
+    pub(crate) fn enter(&mut self, delivery: String, workflow: Workflow, number: Number, r: usize)
         requires deliveries { 0 < spare self.old.deliveries.indexes }
         requires counts { 0 < spare self.old.counts.counts }
         ensures found { (other : List ℕ) → get_by_text self.new.deliveries.indexes other

@@ -1,10 +1,9 @@
 //! Re-runs: a run begins again in its next attempt. GitHub Docs, "Re-running workflows and jobs".
 
-ghost use Rattle.std.specs.Prelude.{◌≡◌, ◌≤◌, ◌+◌, ◌<◌, IfOk, IfSome, Ok, OnErr, OnOk, Some, option_map, slice_set, vec_len};
+ghost use Rattle.std.specs.Prelude.{◌≡◌, ◌≤◌, ◌+◌, ◌<◌, IfSome, Ok, OnErr, OnOk, Some, option_map, slice_set, vec_len};
 ghost use Rattle.definitions.specs.Limits.{last_attempt};
-ghost use Rattle.wf_value.specs.Gives.{ErrsOnlyByMemory, Gives};
+ghost use Rattle.wf_value.specs.Gives.{Gives};
 ghost use Rattle.table_model.specs.Runs.{again, run_at, with_run};
-ghost use Rattle.table_model.specs.LegContext.{events, run_number};
 ghost use Rattle.table_bindings.specs.GroupKeys.{arrivals_of};
 ghost use Rattle.table_runs.specs.inner.Begun.{HaveTickets};
 ghost use Rattle.table_runs.specs.inner.GroupsKept.{AreTold, arrivals_to_come};
@@ -37,24 +36,23 @@ impl Rows {
         ensures tickets { OnOk result (HaveTickets r self.new.runs self.new.bindings) }
         ensures expected { arrivals_to_come self.new.bindings ≤ book.new.expected }
     {
-        match self.next_attempt(alloc, r)? {
-            Some((next, number)) => self.put_again(alloc, r, next, number, book),
-            None => Ok(()),
-        }
+        let Some(run) = self.run(r) else {
+            return Ok(());
+        };
+        let next = run.again(alloc)?;
+        self.put_again(alloc, r, next, book)
     }
 
-    /// Replaces run `r`, which has this number, by its next attempt.
+    /// Replaces run `r` by its next attempt.
     fn put_again(
         &mut self,
         alloc: Global,
         r: usize,
         next: Run,
-        number: usize,
         book: &mut Book<Holder>,
     ) -> Result<(), Refusal>
         requires expected { arrivals_to_come self.old.bindings ≤ book.old.expected }
         requires next { Some next ≡ option_map again (run_at self.old.runs r) }
-        requires number { number ≡ run_number (events self.old.runs) r next.admitted }
         ensures again { Gives (λ _. self.new.runs) result (Ok (with_run r again self.old.runs)) }
         ensures err { OnErr result (self.new ≡ self.old) }
         ensures entries { book.new.entries ≡ book.old.entries }
@@ -64,7 +62,7 @@ impl Rows {
     {
         self.index.lists.reserve_up_to(r + 1)?;
         let like = self.bindings.get(r);
-        let bindings = RunBindings::bind(alloc, &next, number, &mut self.index.lists, r, like)?;
+        let bindings = RunBindings::bind(alloc, &next, &mut self.index.lists, r, like)?;
         expect(book, &bindings)?;
         forgo(book, &self.bindings[r]);
         offer_run(&mut self.index.lists, &bindings, r, &next);
@@ -76,23 +74,6 @@ impl Rows {
         put_at(&mut self.runs, r, next);
         put_at(&mut self.bindings, r, bindings);
         Ok(())
-    }
-
-    /// The next attempt of run `r`, with the run's number.
-    fn next_attempt(&self, alloc: Global, r: usize) -> Result<Option<(Run, usize)>, Refusal>
-        requires { IfSome (run_at self.now.runs r) (λ run. run.attempt < last_attempt) }
-        ensures err { ErrsOnlyByMemory result }
-        ensures next { IfOk result (λ found. option_map (λ it. it.0) found ≡ option_map again (run_at self.now.runs r)) }
-        ensures number { IfOk result (λ found. IfSome found (λ it. it.1 ≡ run_number (events self.now.runs) r it.0.admitted)) }
-    {
-        let Some(run) = self.run(r) else {
-            return Ok(None);
-        };
-        let Some(number) = self.number(r) else {
-            return Ok(None);
-        };
-        let next = run.again(alloc)?;
-        Ok(Some((next, number)))
     }
 }
 

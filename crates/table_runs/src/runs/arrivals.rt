@@ -9,6 +9,7 @@ ghost use Rattle.table_model.specs.Settling.{arrived, first_site, newcomer_rule,
 ghost use Rattle.table_model.specs.Groups.{cancels_in_progress, group_at, run_waits, waits};
 ghost use Rattle.table_model.specs.inner.Holders.{first_conflicting};
 ghost use Rattle.table_model.specs.Holders.{run_of};
+ghost use Rattle.table_model.specs.LegContext.{next_run, number_of_next};
 ghost use Rattle.table_model.specs.Runs.{again, run_at, with_run};
 ghost use Rattle.table_model.specs.inner.Resuming.{is_new_at, resume_at_arrival};
 ghost use Rattle.table_model.specs.Sound.{RunsAreSound};
@@ -21,41 +22,46 @@ ghost use Rattle.table_runs.specs.inner.Arriving.{KeptBeside, stopped_if, with_f
 ghost use Rattle.table_runs.specs.inner.GroupsKept.{GroupsAreKept};
 ghost use Rattle.table_runs.specs.inner.MarkedRuns.{AreMarked, is_due};
 
-use crate::rows::Rows;
+use crate::rows::{ComingRun, Rows};
 use crate::runs::Runs;
 use group_book::Book;
 use run_marks::RunBitmap;
+use run_plan::Prepared;
 use std::alloc::Global;
 use table_model::{Change, Holder, JobSite, Leg, LegPhase, LegSite, Run};
 use wf_value::{Outcome, Refusal};
 
 impl Runs {
-    /// Adds a run at the end, which waits and arrives in its group, and settles. No rule applies before it comes. On an `Err` nothing has
-    /// changed.
-    /// Promise (Runs, and how they are found): The runs of a table, their numbers and deliveries, and what an end, a stop, an arrival and a
-    ///   re-run change, are the definition's
-    /// By: `table_runs::Runs::{admit, position, number, result, stop, end, lease, rerun, running, pending, of_parts}`
+    /// Adds the run of an event at the end, which waits and arrives in its group, and settles. No rule applies before it comes. On an `Err`
+    /// nothing has changed.
+    /// Promise (Runs, and how they are found): The runs of a table, with their ids, numbers and deliveries, and what an end, a stop, an arrival
+    ///   and a re-run change, are the definition's
+    /// By: `table_runs::Runs::{admit, position, result, stop, end, lease, rerun, running, pending, of_parts}`
     /// Refusal (The layers below): `table_runs`: `Runs::{admit, rerun, job_id, combo, group}`; `run_table`: `kept_lease`; all copies
     /// When: 50
     /// Afterwards: as it was; lists of labels only grow
     /// By: one clause each (`Gives`); `Runs::{admit, rerun}`, `err`
-    pub fn admit(&mut self, alloc: Global, run: Run) -> Result<(), Refusal>
+    pub fn admit(&mut self, alloc: Global, event: &Prepared) -> Result<(), Refusal>
         requires few { length self.old < max_runs }
-        requires waits { run_waits run.phase ≡ true }
         requires sound { RunsAreSound self.old }
         requires rests { first_site self.old ≡ None }
-        requires added { RunsAreSound (self.old ++ run ∷ []) }
-        ensures admitted { Gives (λ _. self.new) result (Ok (settled (arrived (held.Run (length self.old)) (self.old ++ run ∷ [])).runs)) }
+        requires added { RunsAreSound (self.old ++ next_run self.old event.now ∷ []) }
+        ensures admitted { Gives (λ _. self.new) result
+            (Ok (settled (arrived (held.Run (length self.old)) (self.old ++ next_run self.old event.now ∷ [])).runs)) }
         ensures err { OnErr result (self.new ≡ self.old) }
     {
-        let start = self.arrive(alloc, run)?;
+        let coming = self.rows.coming(event)?;
+        let run = Run::of_event(alloc, coming.id, coming.number, event)?;
+        let start = self.arrive(alloc, run, coming)?;
         self.settle_from(start);
         Ok(())
     }
 
     /// Adds a run at the end, which waits and arrives in its group. Returns where settling begins to search.
-    fn arrive(&mut self, alloc: Global, run: Run) -> Result<JobSite, Refusal>
+    fn arrive(&mut self, alloc: Global, run: Run, coming: ComingRun) -> Result<JobSite, Refusal>
         requires few { length self.old < max_runs }
+        requires workflow { coming.workflow ≡ run.admitted }
+        requires number { coming.number ≡ number_of_next self.old run.admitted }
         requires waits { run_waits run.phase ≡ true }
         requires sound { RunsAreSound (self.old ++ run ∷ []) }
         ensures admitted { Gives (λ _. self.new) result (Ok (arrived (held.Run (length self.old)) (self.old ++ run ∷ [])).runs) }
@@ -64,7 +70,7 @@ impl Runs {
     {
         let r = self.len();
         self.due.reserve_up_to(r + 1)?;
-        self.rows.add(alloc, run, &mut self.book)?;
+        self.rows.add(alloc, run, coming, &mut self.book)?;
         self.due.mark(r);
         let to_stop = enter(
             &mut self.rows,

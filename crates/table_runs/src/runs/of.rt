@@ -1,6 +1,6 @@
 //! Builds the runs of a table from the parts in which they are stored, and the book of groups from the table.
 
-ghost use Rattle.std.specs.Prelude.{◌≡◌, ◌≤◌, ◌<◌, ℕ, [], IfOk, IfSome, MatchOption, None, Some, length, option_and_then, true};
+ghost use Rattle.std.specs.Prelude.{◌≡◌, ◌≤◌, ◌<◌, ℕ, [], IfOk, IfSome, List, MatchOption, None, Some, length, option_and_then, true};
 ghost use Rattle.definitions.specs.Limits.{max_runs};
 ghost use Rattle.wf_value.specs.Gives.{ErrsOnlyByMemory};
 ghost use Rattle.group_name.specs.Group.{Group as GroupInWords};
@@ -9,6 +9,8 @@ ghost use Rattle.run_marks.specs.Marked.{Covers, is_marked};
 ghost use Rattle.table_model.specs.AsPlanned.{AreAsPlanned};
 ghost use Rattle.table_model.specs.Groups.{group_at, HasOneEach};
 ghost use Rattle.table_model.specs.GroupLaw.{same_holder};
+ghost use Rattle.table_model.specs.Parts.{AreRunsOf};
+ghost use Rattle.table_model.specs.Runs.{RunState};
 ghost use Rattle.table_model.specs.declared.holder.Holder.{Holder as HolderInWords};
 ghost use Rattle.table_bindings.specs.GroupKeys.{ticket_in};
 ghost use Rattle.table_runs.specs.inner.RowsKept.{holder_key_at, key_at};
@@ -37,8 +39,9 @@ impl Runs {
     /// has two holders in progress or two pending ones.
     pub fn of_parts(alloc: Global, parts: &[RunParts]) -> Result<Option<Self>, Refusal>
         ensures err { ErrsOnlyByMemory result }
-        ensures of { IfOk result (λ found. MatchOption found (AreAsPlanned parts.now → HasOneEach parts.now → ⊥)
-            (λ runs. (runs ≡ parts.now) × AreAsPlanned parts.now × HasOneEach parts.now)) }
+        ensures of { IfOk result (λ found. MatchOption found
+            ((runs : List RunState) → AreRunsOf parts.now runs → AreAsPlanned runs → HasOneEach runs → ⊥)
+            (λ runs. AreRunsOf parts.now runs × AreAsPlanned runs × HasOneEach runs)) }
     {
         if parts.len() > MAX_RUNS as usize {
             return Ok(None);
@@ -71,15 +74,19 @@ fn rows_of(
     requires empty { book.old.entries ≡ [] }
     ensures err { ErrsOnlyByMemory result }
     ensures entries { book.new.entries ≡ [] }
-    ensures planned { IfOk result (λ found. MatchOption found (AreAsPlanned parts.now → ⊥) (λ rows. AreAsPlanned parts.now)) }
-    ensures stored { IfOk result (λ found. IfSome found (λ rows. AreStored parts.now rows book.new)) }
+    ensures runs { IfOk result (λ found. IfSome found (λ rows. AreRunsOf parts.now rows.runs)) }
+    ensures planned { IfOk result (λ found. MatchOption found
+        ((runs : List RunState) → AreRunsOf parts.now runs → AreAsPlanned runs → ⊥) (λ rows. AreAsPlanned rows.runs)) }
+    ensures stored { IfOk result (λ found. IfSome found (λ rows. AreStored rows book.new)) }
 {
     let mut rows = Rows::new(alloc);
     for r in 0..parts.len() {
-        let Some(run) = Run::of_parts(alloc, &parts[r])? else {
+        let part = &parts[r];
+        let coming = rows.coming(&part.prepared)?;
+        let Some(run) = Run::of_parts(alloc, coming.id, coming.number, part)? else {
             return Ok(None);
         };
-        rows.add(alloc, run, book)?;
+        rows.add(alloc, run, coming, book)?;
     }
     Ok(Some(rows))
 }

@@ -1,6 +1,4 @@
-use Rattle.std.proofs.Common.{◌+◌}
-use Rattle.std.specs.Fmt.{decimal}
-use Rattle.table_model.specs.Groups.{RunFacts}
+use Rattle.table_model.specs.Groups.{run_facts}
 use Rattle.table_runs.proofs.StillBound.{SameButKeys, lists_still, says_still}
 use Rattle.table_runs.proofs.ToldMore.{begun_first}
 use Rattle.table_runs.proofs.rows.bind.Goals as goal
@@ -11,15 +9,9 @@ decide_begun-requires c =
 
 pub returns-clause-says : goal.returns-clause-says
 returns-clause-says c =
-    let facts : RunFacts = record {
-      event = c.args.run.now.admitted;
-      run_id = decimal (c.args.r + 1);
-      run_number = decimal c.args.number;
-      run_attempt = decimal c.args.run.now.attempt;
-    } in
     let same : SameButKeys c.in_ok-bindings.bindings c.decide_begun.new.bindings =
     record { own = c.decide_begun.ensures.own; jobs = c.decide_begun.ensures.jobs; lists = c.decide_begun.ensures.lists } in
-    says_still facts c.in_ok-bindings.bindings c.decide_begun.new.bindings same c.in_ok-bindings.ensures.says
+    says_still (run_facts c.args.run.now) c.in_ok-bindings.bindings c.decide_begun.new.bindings same c.in_ok-bindings.ensures.says
 
 pub returns-clause-lists : goal.returns-clause-lists
 returns-clause-lists c =

@@ -2,11 +2,12 @@ use Rattle.std.specs.Prelude.{List, Option, Some, IfSome, slice_get, slice_set, 
 use Rattle.std.proofs.Common.{ap, subst, ◌≡◌, ◌≤◌, ◌∙◌, ◌<◌, length, arith, rules}
 use Rattle.std.proofs.lemmas.Option.{slice_get_read}
 use Rattle.table_model.specs.Changes.{changed, offered_by}
+use Rattle.table_model.specs.Groups.{run_facts}
 use Rattle.table_model.specs.Runs.{with_run, RunState}
 use Rattle.table_model.specs.declared.sites.LegSite.{LegSite}
 use Rattle.table_model.proofs.Doors.{changed_past, changed_within}
 use Rattle.table_bindings.specs.inner.LabelNumbers.{IsOffered, IsReadyAt, LegsAreOffered}
-use Rattle.table_runs.proofs.Stays.{changed_admitted, changed_attempt}
+use Rattle.table_runs.proofs.Stays.{changed_facts}
 use Rattle.table_runs.specs.inner.RowsKept.{RowState}
 use Rattle.table_runs.proofs.LegsOffered.{has_place, offered_after}
 use Rattle.table_runs.proofs.ReadyBefore.{ready_before}
@@ -37,10 +38,9 @@ invariant_of-self c =
     offered_after items (slice_set items r new) bindings was lists r change c.index-bindings.result.now requested_at
     (λ p ready. ready_before items r change p (subst (λ (rs : List RunState). IsReadyAt rs p) is_next ready)) one c.offer.ensures.others
     c.self.invariant.0.offered in (
-      still_kept items c.self.inside.numbers.items bindings c.self.inside.index lists c.self.inside.active c.mark.new.self r old new offered within
+      still_kept items bindings c.self.inside.index lists c.self.inside.active c.mark.new.self r old new offered within
           c.index_mut-run.ensures.value
-          (ap (λ (x : RunState). x.admitted) c.change.ensures ∙ changed_admitted change old)
-          (ap (λ (x : RunState). x.attempt) c.change.ensures ∙ changed_attempt change old) c.mark.ensures.keeps c.mark.ensures.puts c.self.invariant.0,
+          (ap run_facts c.change.ensures ∙ changed_facts change old) c.mark.ensures.keeps c.mark.ensures.puts c.self.invariant.0,
       size_changed items r old new change c.self.inside.text c.size_added-more.result within c.index_mut-run.ensures.value c.change.ensures
           c.size_added-more.ensures c.self.invariant.1,
     )
@@ -52,7 +52,7 @@ overflow_add-self c =
     omega (
       arith,
       change_fits items c.args.r c.index_mut-run.result.now c.change.new.self c.args.change c.self.inside.text c.size_added-more.result within
-          c.index_mut-run.ensures.value c.change.ensures c.size_added-more.ensures c.self.invariant.1 c.self.invariant.0.numbered.few,
+          c.index_mut-run.ensures.value c.change.ensures c.size_added-more.ensures c.self.invariant.1 c.self.invariant.0.few,
     )
 
 pub mark-requires : goal.mark-requires

@@ -23,9 +23,9 @@ invariant_of-self c =
     let within : r < length bindings = search rules in
     let is : slice_set bindings r new ≡ changed_at r change bindings =
     changed_within change bindings r old new within c.index_mut-bindings.ensures.value c.decide_job.ensures.decided in (
-      subst (λ (bs : List RunBindings). RunsAreKept c.self.inside.runs.items c.self.inside.numbers.items bs c.self.inside.index c.self.inside.active)
+      subst (λ (bs : List RunBindings). RunsAreKept c.self.inside.runs.items bs c.self.inside.index c.self.inside.active)
           (sym is)
-          (kept_rekeyed c.self.inside.runs.items c.self.inside.numbers.items bindings (changed_at r change bindings) c.self.inside.index
+          (kept_rekeyed c.self.inside.runs.items bindings (changed_at r change bindings) c.self.inside.index
           c.self.inside.active (length-changed_at r change bindings)
           (one_rekeyed r change bindings (λ b. record { own = refl; jobs = refl; lists = refl })) c.self.invariant.0),
       c.self.invariant.1,

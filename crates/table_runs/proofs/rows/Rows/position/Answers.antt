@@ -11,6 +11,6 @@ returns c =
     let runs_are = ap (λ (rows : RowState). rows.runs) c.self.view_is in
     let found = found_run items c.args.self.now.runs c.self.inside.index.deliveries.indexes c.args.delivery.now c.index_of.result runs_are
     c.self.invariant.0.found c.index_of.ensures in
-    let few = c.self.invariant.0.numbered.few in
+    let few = c.self.invariant.0.few in
     let all = ap (λ (runs : List RunState). length runs) runs_are in
     record { found = found; most = found_within c.args.self.now.runs c.args.delivery.now _ c.index_of.result found (omega (arith, few, all)) }

@@ -2,12 +2,7 @@ use Rattle.std.proofs.Common.{arith, ◌≡◌, ◌+◌, ◌-◌, ◌≤◌, ◌
 use Rattle.std.specs.Prelude.{ℕ, Some, option_map, refl, slice_get, slice_set}
 use Rattle.std.proofs.lemmas.Option.{slice_get_read}
 use Rattle.table_model.specs.Runs.{changed_at, again, run_at, RunState}
-use Rattle.std.specs.Fmt.{decimal}
-use Rattle.table_model.specs.Groups.{RunFacts}
-use Rattle.table_model.specs.LegContext.{events, run_number}
-use Rattle.table_bindings.specs.Bindings.{RunSays}
 use Rattle.table_bindings.specs.declared.bindings.RunBindings.{RunBindings}
-use Rattle.table_bindings.proofs.BoundSays.{facts_of_run}
 use Rattle.table_bindings.proofs.LabelNumbers.{grows_more}
 use Rattle.table_runs.specs.inner.Begun.{HaveTickets}
 use Rattle.table_runs.specs.inner.GroupsKept.{AreTold, arrivals_to_come}
@@ -20,18 +15,10 @@ use Rattle.table_runs.proofs.StoredSizes.{small_size}
 use Rattle.table_runs.proofs.ToldMore.{begun_first, next_told}
 use Rattle.table_runs.proofs.rows.Rows.put_again.Goals as goal
 
-abbrev with_number : ℕ → RunState → ℕ → RunFacts
-with_number r next n = record {
-  event = next.admitted;
-  run_id = decimal (r + 1);
-  run_number = decimal n;
-  run_attempt = decimal next.attempt;
-}
-
 -- more room for lists of labels changes nothing
 pub invariant_of-self : goal.invariant_of-self
 invariant_of-self c = (
-  kept_grown c.self.inside.runs.items c.self.inside.numbers.items c.self.inside.bindings.items c.self.inside.index c.self.inside.active
+  kept_grown c.self.inside.runs.items c.self.inside.bindings.items c.self.inside.index c.self.inside.active
       c.reserve_up_to.new.self c.reserve_up_to.ensures.grows c.self.invariant.0,
   c.self.invariant.1,
 )
@@ -39,14 +26,14 @@ invariant_of-self c = (
 -- entering lists changes nothing
 pub invariant_of-self-in_err-bindings : goal.invariant_of-self-in_err-bindings
 invariant_of-self-in_err-bindings c = (
-  kept_grown c.self.inside.runs.items c.self.inside.numbers.items c.self.inside.bindings.items c.self.inside.index c.self.inside.active
+  kept_grown c.self.inside.runs.items c.self.inside.bindings.items c.self.inside.index c.self.inside.active
       c.bind.new.lists (grows_more _ _ _ c.reserve_up_to.ensures.grows c.bind.ensures.grows) c.self.invariant.0,
   c.self.invariant.1,
 )
 
 pub invariant_of-self-in_err-expect : goal.invariant_of-self-in_err-expect
 invariant_of-self-in_err-expect c = (
-  kept_grown c.self.inside.runs.items c.self.inside.numbers.items c.self.inside.bindings.items c.self.inside.index c.self.inside.active
+  kept_grown c.self.inside.runs.items c.self.inside.bindings.items c.self.inside.index c.self.inside.active
       c.bind.new.lists (grows_more _ _ _ c.reserve_up_to.ensures.grows c.bind.ensures.grows) c.self.invariant.0,
   c.self.invariant.1,
 )
@@ -61,7 +48,7 @@ within items now r next seen is = (next_of items r next (is ∙ ap (λ (rs : Lis
 pub bind-requires-clause-few : goal.bind-requires-clause-few
 bind-requires-clause-few c =
     let there = within c.self.inside.runs.items c.args.self.now.runs c.args.r c.args.next (ap (λ (rows : RowState). rows.runs) c.self.view_is) c.requires.next in
-    omega (arith, there, c.self.invariant.0.numbered.few)
+    omega (arith, there, c.self.invariant.0.few)
 
 pub mark-requires : goal.mark-requires
 mark-requires c =
@@ -83,12 +70,6 @@ put_at-requires-2 c =
 pub offer_run-requires : goal.offer_run-requires
 offer_run-requires c = λ j l. (c.in_ok-bindings.ensures.lists j l).place
 
--- what the bindings say of its number
-said : (items now : List RunState) (r number : ℕ) (next : RunState) (b : RunBindings) → items ≡ now → number ≡ run_number (events now) r next.admitted
-    → RunSays (with_number r next number) b → RunSays (facts_of_run items r next) b
-said items now r number next b seen is says =
-    subst (λ n. RunSays (with_number r next n) b) (is ∙ ap (λ (rs : List RunState). run_number (events rs) r next.admitted) (sym seen)) says
-
 pub invariant_of-self-2 : goal.invariant_of-self-2
 invariant_of-self-2 c =
     let items = c.self.inside.runs.items in
@@ -96,19 +77,17 @@ invariant_of-self-2 c =
     let next = c.args.next in
     let runs_are = ap (λ (rows : RowState). rows.runs) c.self.view_is in
     let from = next_of items r next (c.requires.next ∙ ap (λ (rs : List RunState). option_map again (run_at rs r)) (sym runs_are)) in
-    let says = said items c.args.self.now.runs r c.args.number next c.in_ok-bindings.bindings runs_are c.requires.number
-    c.in_ok-bindings.ensures.says in
     let entries = c.bind.new.lists in
     let lists = c.offer_run.new.lists in
-    let entered = kept_grown items c.self.inside.numbers.items c.self.inside.bindings.items c.self.inside.index c.self.inside.active
+    let entered = kept_grown items c.self.inside.bindings.items c.self.inside.index c.self.inside.active
     entries (grows_more _ _ _ c.reserve_up_to.ensures.grows c.bind.ensures.grows) c.self.invariant.0 in
     let offered = offered_again items c.self.inside.bindings.items entries lists r next c.in_ok-bindings.bindings from.within entered.bound.as_many
     c.in_ok-bindings.ensures.lists c.offer_run.ensures.all c.offer_run.ensures.others entered.offered in
     rw (c.put_at.ensures.items, c.put_at-2.ensures.items) (
-      kept_again items c.self.inside.numbers.items c.self.inside.bindings.items (record c.self.inside.index { lists = entries })
+      kept_again items c.self.inside.bindings.items (record c.self.inside.index { lists = entries })
           lists c.self.inside.active c.mark.new.self r from.was next c.in_ok-bindings.bindings offered from.within from.read
           (ap (λ (x : RunState). x.admitted) from.is)
-          says c.mark.ensures.keeps c.mark.ensures.puts entered,
+          c.in_ok-bindings.ensures.says c.mark.ensures.keeps c.mark.ensures.puts entered,
       size_put items r c.index-was.result.now next c.self.inside.text
           (c.self.inside.text - c.run_size-before.result + c.run_size-after.result) from.within c.index-was.ensures
           c.run_size-after.ensures.small
@@ -134,7 +113,7 @@ pub overflow_add-self : goal.overflow_add-self
 overflow_add-self c =
     omega (
       arith,
-      size_most c.self.inside.runs.items c.self.inside.text c.self.invariant.1 c.self.invariant.0.numbered.few,
+      size_most c.self.inside.runs.items c.self.inside.text c.self.invariant.1 c.self.invariant.0.few,
       small_size c.args.next c.run_size-after.ensures.small,
       c.run_size-after.ensures.size,
     )
@@ -187,10 +166,7 @@ returns-clause-told c = λ told.
     let b = c.in_ok-bindings.bindings in
     let runs_are = ap (λ (rows : RowState). rows.runs) c.self.view_is in
     let from = next_of items r next (c.requires.next ∙ ap (λ (rs : List RunState). option_map again (run_at rs r)) (sym runs_are)) in
-    let says = said items c.args.self.now.runs r c.args.number next c.in_ok-bindings.bindings runs_are c.requires.number
-    c.in_ok-bindings.ensures.says in
-    let bound = bound_again items bindings r from.was next b from.within from.read (ap (λ (x : RunState). x.admitted) from.is)
-    says c.self.invariant.0.bound in
+    let bound = bound_again items bindings r next b from.within c.in_ok-bindings.ensures.says c.self.invariant.0.bound in
     let begun = begun_first next b c.in_ok-bindings.ensures.own c.in_ok-bindings.ensures.as_many c.in_ok-bindings.ensures.later in
     let all = next_told items r bindings b next from c.self.invariant.0.bound.as_many bound begun in
     rw (c.put_at.ensures.items, c.put_at-2.ensures.items)
@@ -206,10 +182,7 @@ returns-clause-tickets c =
     let b = c.in_ok-bindings.bindings in
     let runs_are = ap (λ (rows : RowState). rows.runs) c.self.view_is in
     let from = next_of items r next (c.requires.next ∙ ap (λ (rs : List RunState). option_map again (run_at rs r)) (sym runs_are)) in
-    let says = said items c.args.self.now.runs r c.args.number next c.in_ok-bindings.bindings runs_are c.requires.number
-    c.in_ok-bindings.ensures.says in
-    let bound = bound_again items bindings r from.was next b from.within from.read (ap (λ (x : RunState). x.admitted) from.is)
-    says c.self.invariant.0.bound in
+    let bound = bound_again items bindings r next b from.within c.in_ok-bindings.ensures.says c.self.invariant.0.bound in
     let begun = begun_first next b c.in_ok-bindings.ensures.own c.in_ok-bindings.ensures.as_many c.in_ok-bindings.ensures.later in
     let all = next_told items r bindings b next from c.self.invariant.0.bound.as_many bound begun in
     rw (c.put_at.ensures.items, c.put_at-2.ensures.items)

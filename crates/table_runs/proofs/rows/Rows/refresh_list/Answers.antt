@@ -24,7 +24,7 @@ invariant_of-self c =
     subst (λ (numbers : List ListNumbers). offers_list run numbers number ≡ false) c.as_slice-numbers.ensures
     (sym c.offers_list.ensures ∙ none) in (
       record {
-        numbered = are.numbered;
+        few = are.few;
         bound = are.bound;
         found = are.found;
         counted = are.counted;

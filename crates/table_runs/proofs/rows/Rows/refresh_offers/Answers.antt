@@ -42,7 +42,7 @@ invariant_of-self c =
     let requested_there : slice_get bindings r ≡ Some requested =
     slice_get_read bindings (length bindings) r requested refl (omega (arith, within, are.bound.as_many)) c.index-bindings.ensures in (
       record {
-        numbered = are.numbered;
+        few = are.few;
         bound = are.bound;
         found = are.found;
         counted = are.counted;

@@ -1,4 +1,4 @@
-use Rattle.std.proofs.Common.{◌≡◌, Ok, ap, subst}
+use Rattle.std.proofs.Common.{◌≡◌, Ok, ap}
 use Rattle.std.specs.Prelude.{None, option_map, refl}
 use Rattle.table_model.specs.Runs.{again, run_at}
 use Rattle.table_runs.proofs.NextAttempt.{not_there}
@@ -7,13 +7,14 @@ use Rattle.table_runs.proofs.rows.Rows.rerun.Goals as goal
 
 pub returns-in-None : goal.returns-in-None
 returns-in-None c =
-    let none : None ≡ option_map again (run_at c.args.self.now.runs c.args.r) =
-    subst (λ o. option_map (λ it. it.0) o ≡ option_map again (run_at c.args.self.now.runs c.args.r)) c.in-None.is c.in_ok-next.ensures.next in
+    let runs = c.args.self.now.runs in
+    let r = c.args.r in
+    let none : None ≡ option_map again (run_at runs r) = ap (option_map again) c.in-None.ensures.run in
     record {
-      again = ap Ok (not_there again c.args.self.now.runs c.args.r none);
+      again = ap Ok (not_there again runs r none);
       err = tt;
       entries = refl;
       told = (λ told. told);
-      tickets = no_tickets c.args.self.now.runs c.args.self.now.bindings c.args.r (none_left again (run_at c.args.self.now.runs c.args.r) none);
+      tickets = no_tickets runs c.args.self.now.bindings r (none_left again (run_at runs r) none);
       expected = c.requires.expected;
     }

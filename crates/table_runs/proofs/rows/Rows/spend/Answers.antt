@@ -24,9 +24,9 @@ invariant_of-self c =
     changed_within change bindings r old new within c.index_mut-bindings.ensures.value
     (ap (λ (k : KeyState). record old { keys = k }) c.spend.ensures.spent)
     ∙ ap (λ n. changed_at n change bindings) c.run-r.ensures in (
-      subst (λ (bs : List RunBindings). RunsAreKept c.self.inside.runs.items c.self.inside.numbers.items bs c.self.inside.index c.self.inside.active)
+      subst (λ (bs : List RunBindings). RunsAreKept c.self.inside.runs.items bs c.self.inside.index c.self.inside.active)
           (sym is)
-          (kept_rekeyed c.self.inside.runs.items c.self.inside.numbers.items bindings (keys_spent h bindings) c.self.inside.index c.self.inside.active
+          (kept_rekeyed c.self.inside.runs.items bindings (keys_spent h bindings) c.self.inside.index c.self.inside.active
           (length-changed_at (run_of h) change bindings)
           (one_rekeyed (run_of h) change bindings (λ b. record { own = refl; jobs = refl; lists = refl })) c.self.invariant.0),
       c.self.invariant.1,

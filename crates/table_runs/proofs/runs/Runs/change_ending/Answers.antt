@@ -5,7 +5,6 @@ use Rattle.table_model.specs.Changes.{changed}
 use Rattle.table_model.specs.Groups.{group_at}
 use Rattle.table_model.specs.Holders.{run_of}
 use Rattle.table_model.specs.Runs.{with_run, RunState}
-use Rattle.table_runs.proofs.Stays.{changed_admitted}
 use Rattle.table_runs.specs.inner.HolderChanges.{EndsOnly}
 use Rattle.table_runs.specs.inner.RowsKept.{key_at}
 use Rattle.table_runs.proofs.DueStill.{due_changed, next_within, still_after_end}
@@ -52,7 +51,7 @@ invariant_of-self c =
     c.leave_group-next.ensures.leaves c.leave_group-next.ensures.expected c.self.invariant.0 in
     rw (c.change.ensures.runs, c.change.ensures.bindings, c.run-r.ensures) (
       kept,
-      due_changed runs f c.self.inside.due marks r (changed_admitted c.args.change)
+      due_changed runs f c.self.inside.due marks r
           (λ s other none.
           still_after_end runs next c.self.inside.book.entries c.leave_group-next.new.book.entries one (key_at bindings one) freed ends
           c.self.invariant.0.exact key c.leave_group-next.ensures.leaves s

@@ -4,7 +4,6 @@ use Rattle.table_model.specs.Changes.{changed}
 use Rattle.table_model.specs.Groups.{group_at}
 use Rattle.table_model.specs.Holders.{run_of}
 use Rattle.table_model.specs.Runs.{with_run, RunState}
-use Rattle.table_runs.proofs.Stays.{changed_admitted}
 use Rattle.table_runs.specs.inner.HolderChanges.{StartsOnly}
 use Rattle.table_runs.specs.inner.RowsKept.{key_at}
 use Rattle.table_runs.proofs.DueStill.{due_changed, still_after_start}
@@ -48,7 +47,7 @@ invariant_of-self c =
     c.begin_in_group.ensures.begins c.begin_in_group.ensures.expected c.self.invariant.0 in
     rw (c.change.ensures.runs, c.change.ensures.bindings, c.run-r.ensures) (
       kept,
-      due_changed runs f c.self.inside.due c.mark.new.self r (changed_admitted c.args.change)
+      due_changed runs f c.self.inside.due c.mark.new.self r
           (λ s other none. still_after_start runs next one starts s)
           (λ i is. put_adds c.run-r.result i c.self.inside.due c.mark.new.self c.mark.ensures.puts is)
           (put_marks c.run-r.result r c.self.inside.due c.mark.new.self c.mark.ensures.puts (sym c.run-r.ensures)) c.mark.ensures.keeps

@@ -2,7 +2,6 @@ use Rattle.std.proofs.Common.{◌<◌, List, length, arith, refl, subst, sym}
 use Rattle.run_marks.specs.Marked.{Covers}
 use Rattle.table_model.specs.Changes.{changed}
 use Rattle.table_model.specs.Runs.{with_run, RunState}
-use Rattle.table_runs.proofs.Stays.{changed_admitted}
 use Rattle.table_runs.specs.inner.HolderChanges.{ChangesNobody}
 use Rattle.table_runs.proofs.DueStill.{due_changed, still_where_nobody}
 use Rattle.table_runs.proofs.GroupsHeld.{kept_where_nobody}
@@ -26,7 +25,7 @@ invariant_of-self c =
     subst (λ (xs : List RunState). ChangesNobody xs (with_run r f xs)) (sym c.self.view_is) c.requires.nobody in
     rw (c.change.ensures.runs, c.change.ensures.bindings) (
       kept_where_nobody runs next c.self.inside.rows.bindings c.self.inside.book nobody c.self.invariant.0,
-      due_changed runs f c.self.inside.due c.mark.new.self r (changed_admitted c.args.change)
+      due_changed runs f c.self.inside.due c.mark.new.self r
           (λ s other none. still_where_nobody runs next nobody s)
           (λ i is. put_adds r i c.self.inside.due c.mark.new.self c.mark.ensures.puts is)
           (put_marks r r c.self.inside.due c.mark.new.self c.mark.ensures.puts refl) c.mark.ensures.keeps c.self.invariant.1,

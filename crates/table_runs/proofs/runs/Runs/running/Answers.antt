@@ -18,6 +18,6 @@ pub returns-clause-within : goal.returns-clause-within
 returns-clause-within c =
     let g = c.args.group.now in
     most_within c.self.inside.rows.runs c.running.result
-    (subst (λ (w : Inside). length w.rows.runs ≤ max_runs) c.self-inside.view_is c.self-inside.invariant.0.numbered.few)
+    (subst (λ (w : Inside). length w.rows.runs ≤ max_runs) c.self-inside.view_is c.self-inside.invariant.0.few)
     (in_progress_within c.self.inside.rows.runs c.self.inside.book.entries c.self.invariant.0.exact g c.running.result
     (c.running.ensures.slot ∙ ap (λ (w : Inside). (slot_in w.book.entries g).in_progress) c.self-inside.view_is))
