@@ -15,18 +15,20 @@ use Rattle.run_plan.specs.PlanOf.{plan_of}
 use Rattle.run_plan.specs.declared.planned.PlannedJob.{PlannedJob}
 use Rattle.run_plan.specs.declared.reply.Reply.TheVariants as reply
 use Rattle.table_model.specs.Fitting.{legs_at_work}
-use Rattle.table_model.specs.Runs.{run_at, is_delivered_as, blocked_job, new_run, run_in_attempt, LegState, JobState, RunState}
+use Rattle.table_model.specs.Runs.{run_at, is_delivered_as, blocked_job, run_in_attempt, LegState, JobState, RunState}
 use Rattle.table_model.specs.declared.sites.LegSite.{LegSite}
 use Rattle.table_model.specs.Settling.{result_at}
 use Rattle.table_model.specs.Sound.{AttemptsAreGiven, DeliveriesDiffer, ParallelIsBounded}
 use Rattle.table_model.specs.Step.{admission_answer, refused}
 use Rattle.table_model.specs.TableState.{TableState}
-use Rattle.table_model.specs.LegContext.{planned_legs}
+use Rattle.table_model.specs.LegContext.{next_run, number_of_next, planned_legs}
 use Rattle.table_model.proofs.Found.{none_found, found_nowhere, each_at, at_the_end, before_the_end}
 use Rattle.run_table.proofs.Kept.{IsKept, StillHad, kept_still_had}
+use Rattle.table_model.proofs.Identity.{identity_in}
 use Rattle.table_model.proofs.LeaseReads.{leases_same}
 use Rattle.table_model.proofs.LegReads.{work_of, had_at, works_at}
 use Rattle.table_model.proofs.NeedsSettled.{result_in}
+use Rattle.table_model.proofs.Numbered.{ids_more, numbers_more}
 use Rattle.table_model.proofs.Optional.{from_map, if_none}
 use Rattle.table_model.proofs.RunFits.{JobFits, RunFits, RunsFit}
 use Rattle.run_table.proofs.RunnerPut.{holds_at}
@@ -40,8 +42,8 @@ job_is_blocked plan j y e = (from_map (λ _. blocked_job) (slice_get plan j) y (
 blocked_fits : (planned : ℕ) (runs : List RunState) (r j : ℕ) → JobFits planned (result_at runs r j blocked_job) blocked_job
 blocked_fits planned runs r j = record { legs_fit = refl; leases_fit = (λ l z e. cc) }
 
-pub attempt_fits : (runs : List RunState) (r attempt : ℕ) (event : Admitted) → RunFits runs r (run_in_attempt attempt event)
-attempt_fits runs r attempt event = record {
+pub attempt_fits : (runs : List RunState) (r id number attempt : ℕ) (event : Admitted) → RunFits runs r (run_in_attempt id number attempt event)
+attempt_fits runs r id number attempt event = record {
   has_its_jobs = length-map (plan_of event.body) (λ _. blocked_job);
   phase_fits = (refl, (λ j y e. sym (ap (λ (v : JobState). v.phase) (job_is_blocked (plan_of event.body) j y e))));
   jobs_fit = (λ j y e. subst (λ (v : JobState). JobFits (planned_legs runs r j) (result_at runs r j v) v)
@@ -51,7 +53,7 @@ attempt_fits runs r attempt event = record {
 
 -- no leg of it exists
 pub no_lease : (f : LegState → Option ℕ) (event : Admitted) (j l : ℕ)
-    → option_and_then (λ (y : JobState). option_and_then f (slice_get y.legs l)) (slice_get (new_run event).jobs j) ≡ None
+    → option_and_then (λ (y : JobState). option_and_then f (slice_get y.legs l)) (slice_get (map (λ _. blocked_job) (plan_of event.body)) j) ≡ None
 no_lease f event j l =
     ap (option_and_then (λ (y : JobState). option_and_then f (slice_get y.legs l)))
     (slice_get-map (λ _. blocked_job) (plan_of event.body) j) ∙ of_blocked (slice_get (plan_of event.body) j)
@@ -64,36 +66,33 @@ no_lease f event j l =
 -- ---- the runs with the new one
 
 module _ (runs : List RunState) (event : Admitted) where
-  pub all_fit : RunsFit runs → RunsFit (runs ++ new_run event ∷ [])
+  pub all_fit : RunsFit runs → RunsFit (runs ++ next_run runs event ∷ [])
   all_fit fit r x e =
-      let next = runs ++ new_run event ∷ [] in
+      let next = runs ++ next_run runs event ∷ [] in
       elim (cases_eq r (length runs)) [
         | inl s ↦
-            let same : new_run event ≡ x = same_Some (new_run event) x
-            (sym (at_the_end runs (new_run event)) ∙ ap (slice_get next) (sym s) ∙ e) in
-            subst (RunFits next r) same (attempt_fits next r 1 event)
+            let same : next_run runs event ≡ x = same_Some (next_run runs event) x
+            (sym (at_the_end runs (next_run runs event)) ∙ ap (slice_get next) (sym s) ∙ e) in
+            subst (RunFits next r) same (attempt_fits next r (length runs + 1) (number_of_next runs event) 1 event)
         | inr n ↦
-            let before = before_the_end runs (new_run event) r n in
-            let within : r < length runs = slice_get_within runs r x (sym before ∙ e) in
-            fits_beside runs next r x
-            (λ s le. ap (option_map (λ (v : RunState). v.admitted))
-            (before_the_end runs (new_run event) s (λ m. absurd (omega (arith, le, within, m)))))
+            let before = before_the_end runs (next_run runs event) r n in
+            fits_beside runs next r x (ap identity_in before)
             (ap (option_map (λ (v : RunState). v.attempt)) before)
             (λ j a had. ap (option_and_then (λ (v : RunState). result_in v j)) before ∙ had) (fit r x (sym before ∙ e))
       ]
 
   -- no leg of the new run is at work
-  still_bounded : ParallelIsBounded runs → ParallelIsBounded (runs ++ new_run event ∷ [])
+  still_bounded : ParallelIsBounded runs → ParallelIsBounded (runs ++ next_run runs event ∷ [])
   still_bounded bounded r j x most at is =
-      let next = runs ++ new_run event ∷ [] in
+      let next = runs ++ next_run runs event ∷ [] in
       elim (cases_eq r (length runs)) [
         | inl s ↦
-            let jobs : option_and_then (λ (v : RunState). slice_get v.jobs j) (run_at next r) ≡ slice_get (new_run event).jobs j =
-            ap (option_and_then (λ (v : RunState). slice_get v.jobs j)) (ap (slice_get next) s ∙ at_the_end runs (new_run event)) in
+            let jobs : option_and_then (λ (v : RunState). slice_get v.jobs j) (run_at next r) ≡ slice_get (next_run runs event).jobs j =
+            ap (option_and_then (λ (v : RunState). slice_get v.jobs j)) (ap (slice_get next) s ∙ at_the_end runs (next_run runs event)) in
             let blocked = job_is_blocked (plan_of event.body) j x (sym jobs ∙ at) in
             subst (λ (v : JobState). legs_at_work v ≤ most) blocked (omega arith)
         | inr n ↦
-            let before = before_the_end runs (new_run event) r n in
+            let before = before_the_end runs (next_run runs event) r n in
             bounded r j x most (sym (ap (option_and_then (λ (v : RunState). slice_get v.jobs j)) before) ∙ at)
             (sym (ap (λ o. option_and_then (λ (planned : PlannedJob). planned.max_parallel)
             (option_and_then (λ (v : RunState). slice_get (plan_of v.admitted.body) j) o)) before) ∙ is)
@@ -102,7 +101,7 @@ module _ (runs : List RunState) (event : Admitted) where
   pub same_reads : (f : LegState → Option ℕ) (p : LegSite)
       → option_and_then
       (λ (x : RunState). option_and_then (λ (y : JobState). option_and_then f (slice_get y.legs p.leg)) (slice_get x.jobs p.job))
-      (run_at (runs ++ new_run event ∷ []) p.run)
+      (run_at (runs ++ next_run runs event ∷ []) p.run)
       ≡ option_and_then
       (λ (x : RunState). option_and_then (λ (y : JobState). option_and_then f (slice_get y.legs p.leg)) (slice_get x.jobs p.job))
       (run_at runs p.run)
@@ -111,53 +110,53 @@ module _ (runs : List RunState) (event : Admitted) where
       (λ (x : RunState). option_and_then (λ (y : JobState). option_and_then f (slice_get y.legs p.leg)) (slice_get x.jobs p.job)) o in
       elim (cases_eq p.run (length runs)) [
         | inl s ↦
-            ap read (ap (slice_get (runs ++ new_run event ∷ [])) s ∙ at_the_end runs (new_run event)) ∙ no_lease f event p.job p.leg
+            ap read (ap (slice_get (runs ++ next_run runs event ∷ [])) s ∙ at_the_end runs (next_run runs event)) ∙ no_lease f event p.job p.leg
             ∙ sym (ap read (slice_get_past runs p.run (omega (arith, s))))
-        | inr n ↦ ap read (before_the_end runs (new_run event) p.run n)
+        | inr n ↦ ap read (before_the_end runs (next_run runs event) p.run n)
       ]
 
   deliveries : ((r : ℕ) (x : RunState) → run_at runs r ≡ Some x → x.admitted.delivery ≡ event.delivery → ⊥) → DeliveriesDiffer runs
-      → DeliveriesDiffer (runs ++ new_run event ∷ [])
+      → DeliveriesDiffer (runs ++ next_run runs event ∷ [])
   deliveries fresh differ a b x y at bt same =
-      let next = runs ++ new_run event ∷ [] in
+      let next = runs ++ next_run runs event ∷ [] in
       elim (cases_eq a (length runs)) [
         | inl s ↦ elim (cases_eq b (length runs)) [
           | inl t ↦ s ∙ sym t
-          | inr m ↦ absurd (fresh b y (sym (before_the_end runs (new_run event) b m) ∙ bt) (sym same ∙ new_delivery a x s at))
+          | inr m ↦ absurd (fresh b y (sym (before_the_end runs (next_run runs event) b m) ∙ bt) (sym same ∙ new_delivery a x s at))
         ]
         | inr n ↦ elim (cases_eq b (length runs)) [
-          | inl t ↦ absurd (fresh a x (sym (before_the_end runs (new_run event) a n) ∙ at) (same ∙ new_delivery b y t bt))
-          | inr m ↦ differ a b x y (sym (before_the_end runs (new_run event) a n) ∙ at)
-              (sym (before_the_end runs (new_run event) b m) ∙ bt) same
+          | inl t ↦ absurd (fresh a x (sym (before_the_end runs (next_run runs event) a n) ∙ at) (same ∙ new_delivery b y t bt))
+          | inr m ↦ differ a b x y (sym (before_the_end runs (next_run runs event) a n) ∙ at)
+              (sym (before_the_end runs (next_run runs event) b m) ∙ bt) same
         ]
       ]
     where
-      new_delivery : (r : ℕ) (x : RunState) → r ≡ length runs → run_at (runs ++ new_run event ∷ []) r ≡ Some x
+      new_delivery : (r : ℕ) (x : RunState) → r ≡ length runs → run_at (runs ++ next_run runs event ∷ []) r ≡ Some x
           → x.admitted.delivery ≡ event.delivery
       new_delivery r x s e =
           sym (ap (λ (v : RunState). v.admitted.delivery)
-          (same_Some (new_run event) x (sym (at_the_end runs (new_run event)) ∙ ap (slice_get (runs ++ new_run event ∷ [])) (sym s) ∙ e)))
+          (same_Some (next_run runs event) x (sym (at_the_end runs (next_run runs event)) ∙ ap (slice_get (runs ++ next_run runs event ∷ [])) (sym s) ∙ e)))
 
 -- what held of the runs before still holds of them
-still_there : (runs : List RunState) (event : Admitted) → StillHad runs (runs ++ new_run event ∷ [])
+still_there : (runs : List RunState) (event : Admitted) → StillHad runs (runs ++ next_run runs event ∷ [])
 still_there runs event = record {
   runs_stay = (λ r x at. (x, as_before r x at ∙ at, omega arith));
   had = (λ p n x y at then_at same h. same_reads runs event (λ z. z.lease) p ∙ h);
-  plans = (λ r j x at. ap (option_and_then (λ (run : RunState). slice_get (plan_of run.admitted.body) j)) (as_before r x at));
+  identities = (λ r x at. ap identity_in (as_before r x at));
 }
   where
-    as_before : (r : ℕ) (x : RunState) → run_at runs r ≡ Some x → run_at (runs ++ new_run event ∷ []) r ≡ run_at runs r
+    as_before : (r : ℕ) (x : RunState) → run_at runs r ≡ Some x → run_at (runs ++ next_run runs event ∷ []) r ≡ run_at runs r
     as_before r x at =
-        let within = slice_get_within runs r x at in before_the_end runs (new_run event) r (λ m. absurd (omega (arith, within, m)))
+        let within = slice_get_within runs r x at in before_the_end runs (next_run runs event) r (λ m. absurd (omega (arith, within, m)))
 
-first_attempt : (runs : List RunState) (event : Admitted) → AttemptsAreGiven runs → AttemptsAreGiven (runs ++ new_run event ∷ [])
+first_attempt : (runs : List RunState) (event : Admitted) → AttemptsAreGiven runs → AttemptsAreGiven (runs ++ next_run runs event ∷ [])
 first_attempt runs event given r y at =
     elim (cases_eq r (length runs)) [
       | inl s ↦
-          let same : new_run event ≡ y = same_Some (new_run event) y
-          (sym (at_the_end runs (new_run event)) ∙ ap (slice_get (runs ++ new_run event ∷ [])) (sym s) ∙ at) in
+          let same : next_run runs event ≡ y = same_Some (next_run runs event) y
+          (sym (at_the_end runs (next_run runs event)) ∙ ap (slice_get (runs ++ next_run runs event ∷ [])) (sym s) ∙ at) in
           subst (λ (v : RunState). (1 ≤ v.attempt) × (v.attempt ≤ last_attempt)) same (omega arith, omega arith)
-      | inr n ↦ given r y (sym (before_the_end runs (new_run event) r n) ∙ at)
+      | inr n ↦ given r y (sym (before_the_end runs (next_run runs event) r n) ∙ at)
     ]
 
 -- ---- what was checked first
@@ -169,18 +168,20 @@ nothing_mapped f (Some x) e = cc
 -- ---- the table with the new run
 
 pub admit_keeps : (t : TableState) (event : Admitted) → IsKept t → admission_answer t event ≡ None
-    → IsKept (record t { runs = t.runs ++ new_run event ∷ [] })
+    → IsKept (record t { runs = t.runs ++ next_run t.runs event ∷ [] })
 admit_keeps t event s none =
-    let next = t.runs ++ new_run event ∷ [] in
+    let next = t.runs ++ next_run t.runs event ∷ [] in
     let looked = or_nothing (option_map (λ i. reply.Created (i + 1)) (position (is_delivered_as event.delivery) t.runs))
     (if nat_le 100000 (length t.runs) then Some (refused LastCounter) else None) none in
     let nowhere =
     found_nowhere (is_delivered_as event.delivery) t.runs
     (nothing_mapped (λ i. reply.Created (i + 1)) (position (is_delivered_as event.delivery) t.runs) looked.0) in
     let room = leb-false 100000 (length t.runs) (if_none (nat_le 100000 (length t.runs)) (refused LastCounter) looked.1) in
-    let more = length-append t.runs (new_run event ∷ []) in
+    let more = length-append t.runs (next_run t.runs event ∷ []) in
     record {
       few_runs = omega (arith, more, room);
+      ids_follow = ids_more t.runs (next_run t.runs event) refl s.ids_follow;
+      numbers_follow = numbers_more t.runs (next_run t.runs event) refl s.numbers_follow;
       deliveries_differ = deliveries t.runs event (fresh nowhere) s.deliveries_differ;
       attempts_are_given = first_attempt t.runs event s.attempts_are_given;
       fit = all_fit t.runs event s.fit;

@@ -14,7 +14,7 @@ use Rattle.table_model.specs.declared.phases.LegPhase.{LegPhase}
 use Rattle.table_model.specs.declared.phases.LegPhase.TheVariants as leg
 use Rattle.table_model.proofs.LegReads.{work_of, works_at, works_is}
 use Rattle.table_model.proofs.RunFits.{RunsFit, admitted_at, leases_fit, leg_in_job, plan_at_same}
-use Rattle.table_model.proofs.Settles.{Settles}
+use Rattle.table_model.proofs.Settles.{Settles, admitted_stays}
 
 abbrev pub at_work : LegState → Bool
 at_work l = is_at_work l.phase
@@ -141,4 +141,4 @@ fewer_at_work runs next fit same still bounded r j y most at is =
 
 pub settling_bounded : (runs next : List RunState) → Settles runs next → ParallelIsBounded runs → ParallelIsBounded next
 settling_bounded runs next settling bounded =
-    fewer_at_work runs next settling.stay.fit settling.stay.same_admitted (λ p n e. sym (settling.same_works p) ∙ e) bounded
+    fewer_at_work runs next settling.stay.fit (admitted_stays runs next settling.stay) (λ p n e. sym (settling.same_works p) ∙ e) bounded

@@ -21,6 +21,8 @@ abbrev table_with : LegPhase → TableState
 table_with phase = record {
   last_lease = 1;
   runs = record {
+    id = 1;
+    number = 1;
     admitted = record { delivery = codes "d1"; event = codes "push"; body = codes "{}" };
     attempt = 1;
     phase = run.Live;

@@ -9,7 +9,8 @@ use Rattle.run_plan.specs.declared.command.Done.{Done as Reported}
 use Rattle.table_model.specs.Settling.{arrived}
 use Rattle.table_model.specs.Fitting.{first_fit}
 use Rattle.table_model.specs.Groups.{HasOneBeside, HasOneEach, waits}
-use Rattle.table_model.specs.Runs.{run_at, with_leg, with_run, leg_has_ended, again, leased_leg, new_run, RunState}
+use Rattle.table_model.specs.LegContext.{next_run}
+use Rattle.table_model.specs.Runs.{run_at, with_leg, with_run, leg_has_ended, again, leased_leg, RunState}
 use Rattle.table_model.specs.declared.sites.LegSite.{LegSite}
 use Rattle.table_model.specs.Sound.{IsSound, RunsAreSound}
 use Rattle.table_model.specs.Step.{entered_again, report_answer, rerun_answer}
@@ -45,12 +46,11 @@ so_settles runs new is may = subst MaySettle (sym is) may
 
 -- ---- a run is entered
 
-pub sound_with_it : (t : TableState) (event : Admitted) (runs : List RunState) (run : RunState) → IsSound t → runs ≡ t.runs
-    → run ≡ new_run event → RunsAreSound (runs ++ run ∷ [])
-sound_with_it t event runs run s runs_are run_is =
-    subst (λ (xs : List RunState). RunsAreSound (xs ++ run ∷ [])) (sym runs_are)
-    (subst (λ (x : RunState). RunsAreSound (t.runs ++ x ∷ [])) (sym run_is)
-    (sound_runs (t.runs ++ new_run event ∷ []) (all_fit t.runs event (table_fits t s))))
+pub sound_with_it : (t : TableState) (event : Admitted) (runs : List RunState) → IsSound t → runs ≡ t.runs
+    → RunsAreSound (runs ++ next_run runs event ∷ [])
+sound_with_it t event runs s runs_are =
+    subst (λ (xs : List RunState). RunsAreSound (xs ++ next_run xs event ∷ [])) (sym runs_are)
+    (sound_runs (t.runs ++ next_run t.runs event ∷ []) (all_fit t.runs event (table_fits t s)))
 
 -- ---- a run begins again
 
@@ -65,7 +65,7 @@ pub again_arrives : (t : TableState) (r attempt : ℕ) → IsSound t → BeginsA
 again_arrives t r attempt s begins = record {
   is_pending = again_waits t.runs r begins.was begins.there;
   sound = sound_runs (with_run r again t.runs) (again_fits t.runs r (table_fits t s));
-  one_beside = beside_again t.runs r (table_fits t s) s.one_of_each_group;
+  one_beside = beside_again t.runs r s.one_of_each_group;
 }
 
 pub again_may_settle : (t : TableState) (r attempt : ℕ) → IsSound t → BeginsAgain t.runs r attempt → MaySettle (entered_again t r).runs

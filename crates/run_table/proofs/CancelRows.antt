@@ -21,6 +21,8 @@ use Rattle.run_table.proofs.ViewRows.{claimed, unclaimed}
 abbrev pub run_of : RunPhase → Bool → List JobState → RunState
 run_of phase stopping jobs =
     record {
+      id = 1;
+      number = 1;
       admitted = record { delivery = codes "d1"; event = codes "push"; body = codes "{}" };
       attempt = 1;
       phase = phase;

@@ -21,6 +21,7 @@ use Rattle.wf_value.specs.declared.outcome.JobResult.{JobResult}
 use Rattle.table_model.specs.LegContext.{planned_legs}
 use Rattle.table_model.specs.declared.phases.JobPhase.{JobPhase}
 use Rattle.table_model.specs.declared.phases.JobPhase.TheVariants as job
+use Rattle.table_model.proofs.Numbered.{ids_stay, numbers_stay}
 use Rattle.table_model.proofs.Optional.{from_and_then, from_map}
 use Rattle.table_model.specs.Step.{refused, has_no_lease_left, claim_answer, claiming_runner, kept_lease_at}
 use Rattle.table_model.specs.TableState.{RunnerState, TableState, runner_named, answer_by_number, with_runner, holds_lease}
@@ -34,7 +35,8 @@ use Rattle.settling_laws.proofs.Lowered.{sum_of_changed}
 use Rattle.run_table.proofs.Kept.{IsKept, KeptIsHad, WasHad, attempts_still_given, kept_still_had, stay_still_had, lease_reply_same, deliveries_still_differ}
 use Rattle.table_model.proofs.LeaseReads.{ChangesAt, names_same, place_or_another, lease_given, leases_same}
 use Rattle.table_model.proofs.LegReads.{work_of, had_at, works_at, had_is, works_is, had_from_leg, works_from_leg}
-use Rattle.table_model.proofs.RunFits.{RunsFit, admitted_at, plan_at_same, planned_legs_same, jobs_fit, leases_fit}
+use Rattle.table_model.proofs.RunFits.{RunsFit, admitted_at, planned_legs_same, jobs_fit, leases_fit}
+use Rattle.table_model.proofs.Settles.{admitted_stays}
 use Rattle.run_table.proofs.RunnerOrder.{names_still_rise}
 use Rattle.run_table.proofs.RunnerPut.{each_put, holds_at, holds_changes}
 
@@ -182,6 +184,8 @@ serving_keeps t claim s none =
     let changes = holds_changes t.runners new in
     record {
       few_runs = s.few_runs;
+      ids_follow = s.ids_follow;
+      numbers_follow = s.numbers_follow;
       deliveries_differ = s.deliveries_differ;
       attempts_are_given = s.attempts_are_given;
       fit = s.fit;
@@ -275,20 +279,22 @@ leasing_keeps t claim p s none fit =
       run = from.value;
       run_is = from.is;
       job_is = refl;
-      planned = subst (λ (n : ℕ). p.leg < n) (sym (planned_legs_same t.runs next p.run p.job (stay.same_admitted p.run)))
+      planned = subst (λ (n : ℕ). p.leg < n) (sym (planned_legs_same t.runs next p.run p.job (admitted_stays t.runs next stay p.run)))
           (leg_is_planned t.runs s.fit p z ready.is);
-      tells = lease_reply_same t.runs next p lease (plan_at_same t.runs next p.run p.job (stay.same_admitted p.run));
+      tells = lease_reply_same t.runs next p lease (stay.same_identity p.run);
       given = (omega arith, omega arith);
       attempt = (omega (arith, kept_at, first), omega (arith, kept_at, from.gives));
       had = (λ e. had.here);
     } in
     record {
       few_runs = subst (λ (n : ℕ). n ≤ 100000) (sym stay.same_length) s.few_runs;
-      deliveries_differ = deliveries_still_differ t.runs next stay.same_admitted s.deliveries_differ;
+      ids_follow = ids_stay t.runs next stay.same_identity s.ids_follow;
+      numbers_follow = numbers_stay t.runs next stay.same_identity s.numbers_follow;
+      deliveries_differ = deliveries_still_differ t.runs next (admitted_stays t.runs next stay) s.deliveries_differ;
       attempts_are_given = attempts_still_given t.runs next stay.same_attempt s.attempts_are_given;
       fit = stay.fit;
       parallel_bounded = leased_bounded t.runs p z (λ _. leased_leg lease) ready.is (fitting_room claim.labels t.runs p fit)
-          stay.same_admitted stay.fit s.parallel_bounded;
+          (admitted_stays t.runs next stay) stay.fit s.parallel_bounded;
       agree = lease_given t.last_lease (had_at t.runs) (works_at t.runs) (had_at next) (works_at next) (holds_at t.runners)
           (holds_at (with_runner t.runners new)) p claim.runner s.agree free_leg free_runner
           had (works_changes t.runs p z (λ _. leased_leg lease) ready.is) (holds_changes t.runners new);
@@ -298,5 +304,5 @@ leasing_keeps t claim p s none fit =
       kept_are_had =
           each_put t.runners new (λ x. KeptIsHad lease next x.last) leg_facts_of
           (λ k x e. kept_still_had t.last_lease lease t.runs next (omega arith)
-          (stay_still_had t.runs next stay.same_admitted stay.same_attempt still) x.last (s.kept_are_had k x e));
+          (stay_still_had t.runs next stay.same_identity stay.same_attempt still) x.last (s.kept_are_had k x e));
     }

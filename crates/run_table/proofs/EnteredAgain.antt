@@ -7,31 +7,30 @@ use Rattle.std.proofs.Common.{arith, ap, inl, inr, sym, ◌∙◌, subst}
 use Rattle.std.proofs.lemmas.Bool.{and_from, and_parts, cases_eq, false≢true}
 use Rattle.std.proofs.lemmas.Option.{none-some, same_Some}
 use Rattle.definitions.specs.Limits.{last_attempt}
-use Rattle.group_name.specs.Group.{Group, same_group}
-use Rattle.run_plan.specs.PlanOf.{plan_of}
+use Rattle.group_name.specs.Group.{Group, same_group as alike}
 use Rattle.table_model.specs.Groups.{group_at, waits}
 use Rattle.table_model.specs.Groups.{HasOneBeside, HasOneEach, holds, is_in, is_pending_in, is_in_progress_in, leg_holds, leg_waits, run_waits}
 use Rattle.table_model.specs.Holders.{run_of}
 use Rattle.table_model.specs.Runs.{again, leg_at, run_at, with_run, LegState, JobState, RunState, is_live}
 use Rattle.table_model.specs.declared.sites.LegSite.{LegSite}
-use Rattle.table_model.specs.LegContext.{events}
 use Rattle.table_model.specs.declared.phases.LegPhase.{LegPhase}
 use Rattle.table_model.specs.Sound.{AttemptsAreGiven}
 use Rattle.table_model.specs.Step.{entered_again}
 use Rattle.table_model.specs.TableState.{TableState}
 use Rattle.table_model.proofs.Changed.{at_another, at_changed, length-changed_at}
+use Rattle.table_model.proofs.Identity.{identity_at, identity_in, same_admitted}
 use Rattle.table_model.proofs.LeaseReads.{LeasesAgree}
-use Rattle.table_model.proofs.LegFacts.{SameUpTo, attempt_at, facts_stay}
+use Rattle.table_model.proofs.LegFacts.{attempt_at}
 use Rattle.table_model.proofs.LegReads.{had_at, had_in, work_of, works_at, works_in}
 use Rattle.table_model.proofs.NeedsSettled.{KeepsResults, result_in}
+use Rattle.table_model.proofs.Numbered.{ids_stay, numbers_stay}
 use Rattle.table_model.proofs.Optional.{from_map}
 use Rattle.table_model.proofs.RunFits.{RunFits, RunsFit, admitted_at}
-use Rattle.table_model.proofs.Settles.{Settles, fits_beside, same_events}
+use Rattle.table_model.proofs.Settles.{Settles, fits_beside}
 use Rattle.settling_laws.proofs.ArrivalKeeps.{arrival_one_each}
-use Rattle.settling_laws.proofs.GroupStays.{leg_group_same, leg_needs_finished, run_group_stays}
+use Rattle.settling_laws.proofs.GroupStays.{same_group}
 use Rattle.settling_laws.proofs.HoldersFade.{by_run, leg_passes, passes, run_passes}
 use Rattle.settling_laws.proofs.HoldersKeep.{arrival_settles}
-use Rattle.settling_laws.proofs.OneEach.{IsOneOf, one_that_holds, one_that_waits}
 use Rattle.run_table.proofs.AdmitKeeps.{attempt_fits, no_lease}
 use Rattle.run_table.proofs.AtWork.{fewer_at_work}
 use Rattle.run_table.proofs.BeginsAgain.{BeginsAgain, no_work}
@@ -58,10 +57,9 @@ leases_fewer last had works had' works' holds before same still agree = record {
 
 -- ---- the run by itself
 
-same_event : (o : Option RunState)
-    → option_map (λ (v : RunState). v.admitted) (option_map again o) ≡ option_map (λ (v : RunState). v.admitted) o
-same_event None = refl
-same_event (Some x) = refl
+same_identity : (o : Option RunState) → identity_in (option_map again o) ≡ identity_in o
+same_identity None = refl
+same_identity (Some x) = refl
 
 nothing_read : (f : LegState → Option ℕ) (j l : ℕ) (o : Option RunState)
     → option_and_then (λ (x : RunState). option_and_then (λ (y : JobState). option_and_then f (slice_get y.legs l)) (slice_get x.jobs j))
@@ -71,7 +69,7 @@ nothing_read f j l (Some x) = no_lease f x.admitted j l
 
 no_leg_passes : (test : LegPhase → Bool) (j l : ℕ) (o : Option RunState) → passes (run_passes test j l) (option_map again o) ≡ false
 no_leg_passes test j l None = refl
-no_leg_passes test j l (Some x) = no_leg_of_new_run test j l x.admitted
+no_leg_passes test j l (Some x) = no_leg_of_new_run test j l x.id x.number (x.attempt + 1) x.admitted
 
 not_live : (o : Option RunState) → passes (λ (v : RunState). is_live v.phase) (option_map again o) ≡ false
 not_live None = refl
@@ -92,14 +90,15 @@ module _ (runs : List RunState) (r : ℕ) where
   elsewhere : (k : ℕ) → (k ≡ r → ⊥) → run_at next k ≡ run_at runs k
   elsewhere k other = at_another r again runs k other
 
-  pub again_admitted : (k : ℕ) → admitted_at next k ≡ admitted_at runs k
-  again_admitted k =
+  pub again_identity : (k : ℕ) → identity_at next k ≡ identity_at runs k
+  again_identity k =
       elim (cases_eq k r) [
-        | inl same ↦
-            ap (option_map (λ (v : RunState). v.admitted)) (at_it k same) ∙ same_event (run_at runs r)
-            ∙ ap (option_map (λ (v : RunState). v.admitted)) (ap (run_at runs) (sym same))
-        | inr other ↦ ap (option_map (λ (v : RunState). v.admitted)) (elsewhere k other)
+        | inl same ↦ ap identity_in (at_it k same) ∙ same_identity (run_at runs r) ∙ ap identity_in (ap (run_at runs) (sym same))
+        | inr other ↦ ap identity_in (elsewhere k other)
       ]
+
+  again_admitted : (k : ℕ) → admitted_at next k ≡ admitted_at runs k
+  again_admitted k = same_admitted runs next k (again_identity k)
 
   same_attempt : (k : ℕ) → (k ≡ r → ⊥) → attempt_at next k ≡ attempt_at runs k
   same_attempt k other = ap (option_map (λ (v : RunState). v.attempt)) (elsewhere k other)
@@ -112,9 +111,9 @@ module _ (runs : List RunState) (r : ℕ) where
       elim (cases_eq k r) [
         | inl same ↦
             let from = from_map again (run_at runs r) y (sym (at_it k same) ∙ at) in
-            subst (RunFits next k) from.gives (attempt_fits next k (from.value.attempt + 1) from.value.admitted)
+            subst (RunFits next k) from.gives (attempt_fits next k from.value.id from.value.number (from.value.attempt + 1) from.value.admitted)
         | inr other ↦
-            fits_beside runs next k y (λ s le. again_admitted s) (same_attempt k other) (results_stay k other)
+            fits_beside runs next k y (again_identity k) (same_attempt k other) (results_stay k other)
             (fit k y (sym (elsewhere k other) ∙ at))
       ]
 
@@ -131,11 +130,7 @@ module _ (runs : List RunState) (r : ℕ) where
           absurd (omega (arith, later, same))
       | inr other ↦ ap (option_and_then (λ (run : RunState). had_in run p.job p.leg)) (elsewhere p.run other) ∙ had
     ]);
-    plans = (λ k j x at. elim (cases_eq k r) [
-      | inl same ↦ ap (option_and_then (λ (run : RunState). slice_get (plan_of run.admitted.body) j)) (here k x same at)
-          ∙ sym (ap (option_and_then (λ (run : RunState). slice_get (plan_of run.admitted.body) j)) at)
-      | inr other ↦ ap (option_and_then (λ (run : RunState). slice_get (plan_of run.admitted.body) j)) (elsewhere k other)
-    ]);
+    identities = (λ k x at. again_identity k);
   }
 
   again_is_given : (x : RunState) → run_at runs r ≡ Some x → x.attempt < last_attempt → AttemptsAreGiven runs → AttemptsAreGiven next
@@ -220,40 +215,30 @@ module _ (runs : List RunState) (r : ℕ) where
 
   -- ---- groups of the other runs stay
 
-  events_stay : (k : ℕ) → SameUpTo k (events next) (events runs)
-  events_stay k = same_events runs next k (λ s le. again_admitted s)
+  pub group_beside : (h : Holder) → (run_of h ≡ r → ⊥) → group_at next h ≡ group_at runs h
+  group_beside h other = same_group runs next h (elsewhere (run_of h) other)
 
-  pub group_beside : RunsFit runs → (h : Holder) → IsOneOf runs h → (run_of h ≡ r → ⊥) → group_at next h ≡ group_at runs h
-  group_beside fit (Run k) there other = run_group_stays runs next k (events_stay k) (same_attempt k other)
-  group_beside fit (Leg p) there other =
-      leg_group_same runs next p
-      (facts_stay runs next p (events_stay p.run) (same_attempt p.run other) (leg_needs_finished runs fit p there.0 there.1)
-      (results_stay p.run other))
+  was_in : (g : Group) (h : Holder) → (run_of h ≡ r → ⊥) → is_in next g h ≡ true → is_in runs g h ≡ true
+  was_in g h other e = ap (λ o. option_map_or (alike g) o false) (sym (group_beside h other)) ∙ e
 
-  was_in : RunsFit runs → (g : Group) (h : Holder) → IsOneOf runs h → (run_of h ≡ r → ⊥) → is_in next g h ≡ true → is_in runs g h ≡ true
-  was_in fit g h there other e = ap (λ o. option_map_or (same_group g) o false) (sym (group_beside fit h there other)) ∙ e
-
-  was_pending : RunsFit runs → (g : Group) (h : Holder) → (h ≡ Run r → ⊥) → is_pending_in next g h ≡ true
-      → is_pending_in runs g h ≡ true
-  was_pending fit g h another e =
+  was_pending : (g : Group) (h : Holder) → (h ≡ Run r → ⊥) → is_pending_in next g h ≡ true → is_pending_in runs g h ≡ true
+  was_pending g h another e =
       let parts = and_parts (is_in next g h) (waits next h) e in
       elim (again_waited h parts.1) [
         | inl same ↦ absurd (another same)
-        | inr before ↦
-            and_from (is_in runs g h) (waits runs h)
-            (was_in fit g h (one_that_waits runs h before.1) before.0 parts.0) before.1
+        | inr before ↦ and_from (is_in runs g h) (waits runs h) (was_in g h before.0 parts.0) before.1
       ]
 
-  was_in_progress : RunsFit runs → (g : Group) (h : Holder) → is_in_progress_in next g h ≡ true → is_in_progress_in runs g h ≡ true
-  was_in_progress fit g h e =
+  was_in_progress : (g : Group) (h : Holder) → is_in_progress_in next g h ≡ true → is_in_progress_in runs g h ≡ true
+  was_in_progress g h e =
       let parts = and_parts (is_in next g h) (holds next h) e in
       let before = again_held h parts.1 in
-      and_from (is_in runs g h) (holds runs h) (was_in fit g h (one_that_holds runs h before.1) before.0 parts.0) before.1
+      and_from (is_in runs g h) (holds runs h) (was_in g h before.0 parts.0) before.1
 
-  pub beside_again : RunsFit runs → HasOneEach runs → HasOneBeside next (Run r)
-  beside_again fit each = record {
-    pending = (λ g h k not_h not_k e f. each.pending g h k (was_pending fit g h not_h e) (was_pending fit g k not_k f));
-    in_progress = (λ g h k e f. each.in_progress g h k (was_in_progress fit g h e) (was_in_progress fit g k f));
+  pub beside_again : HasOneEach runs → HasOneBeside next (Run r)
+  beside_again each = record {
+    pending = (λ g h k not_h not_k e f. each.pending g h k (was_pending g h not_h e) (was_pending g k not_k f));
+    in_progress = (λ g h k e f. each.in_progress g h k (was_in_progress g h e) (was_in_progress g k f));
   }
 
 -- ---- in a table
@@ -270,6 +255,8 @@ again_keeps t r attempt s begins =
     let fit = again_fits t.runs r s.fit in
     record {
       few_runs = subst (λ (n : ℕ). n ≤ 100000) (sym (length-changed_at r again t.runs)) s.few_runs;
+      ids_follow = ids_stay t.runs next (again_identity t.runs r) s.ids_follow;
+      numbers_follow = numbers_stay t.runs next (again_identity t.runs r) s.numbers_follow;
       deliveries_differ = deliveries_still_differ t.runs next (again_admitted t.runs r) s.deliveries_differ;
       attempts_are_given = again_is_given t.runs r x begins.there begins.below s.attempts_are_given;
       fit = fit;
@@ -294,4 +281,4 @@ pub entered_again_one_each : (t : TableState) (r attempt : ℕ) → RunsFit t.ru
     → HasOneEach (entered_again t r).runs
 entered_again_one_each t r attempt fit begins each =
     arrival_one_each (with_run r again t.runs) (again_fits t.runs r fit) (Run r) (again_waits t.runs r begins.was begins.there)
-    (beside_again t.runs r fit each)
+    (beside_again t.runs r each)

@@ -2,15 +2,16 @@
 use Rattle.std.specs.Prelude.{◌≡◌, ℕ, ◌+◌, ◌<◌, ◌≤◌, List, [], length, Bool, true, Option, Some, None, option_map, option_and_then, slice_get}
 use Rattle.std.specs.Prelude.{if◌then◌else◌, refl}
 use Rattle.std.specs.Option.{option_map_or}
-use Rattle.std.proofs.Common.{arith, ap, sym, ◌∙◌, subst}
+use Rattle.std.proofs.Common.{arith, ap, ap₂, sym, ◌∙◌, subst}
 use Rattle.std.proofs.lemmas.Option.{same_Some}
 use Rattle.definitions.specs.Limits.{last_attempt, last_number}
 use Rattle.table_model.specs.Groups.{HasOneEach}
 use Rattle.run_plan.specs.declared.planned.PlannedJob.{PlannedJob}
-use Rattle.table_model.specs.Runs.{run_at, leg_at, plan_at, LegState, RunState}
+use Rattle.run_plan.specs.declared.reply.Lease.{Lease as Leased}
+use Rattle.table_model.specs.Runs.{run_at, leg_at, LegState, RunState}
 use Rattle.table_model.specs.declared.sites.LegSite.{LegSite}
 use Rattle.table_model.specs.Settling.{first_site, settled}
-use Rattle.table_model.specs.Sound.{DeliveriesDiffer, LeasesAreGiven, LeasesDiffer, IsHeld, IsAtWork, WorkIsHeld}
+use Rattle.table_model.specs.Sound.{DeliveriesDiffer, IdsFollow, NumbersFollow, LeasesAreGiven, LeasesDiffer, IsHeld, IsAtWork, WorkIsHeld}
 use Rattle.table_model.specs.Fitting.{is_at_work}
 use Rattle.table_model.specs.LegContext.{planned_legs}
 use Rattle.table_model.specs.Sound.{HeldIsAtWork, HeldOnce, LastsAreOwn, AttemptsAreGiven, KeptIsOfALeg, IsSound, ParallelIsBounded}
@@ -21,16 +22,18 @@ use Rattle.run_plan.specs.declared.last_command.LastCommand.TheVariants as last
 use Rattle.run_plan.specs.declared.last_command.ClaimReply.TheVariants as given
 use Rattle.run_plan.specs.declared.last_command.KeptLease.{KeptLease}
 use Rattle.run_table.proofs.AtWork.{settling_bounded}
+use Rattle.table_model.proofs.Identity.{identity_at, same_admitted, same_id}
 use Rattle.table_model.proofs.LeaseReads.{LeasesAgree, leases_same}
 use Rattle.table_model.proofs.LegFacts.{attempt_at}
 use Rattle.table_model.proofs.LegReads.{had_at, works_at, had_from_leg, works_from_leg, leg_from_had, leg_from_works, work_parts}
+use Rattle.table_model.proofs.Numbered.{ids_stay, numbers_stay}
 use Rattle.table_model.proofs.Optional.{from_and_then, from_map}
 use Rattle.table_model.proofs.RunFits.{RunsFit, admitted_at, plan_at_same, runs_fit, jobs_are_the_plans, run_phases_fit, jobs_fit}
 use Rattle.table_model.proofs.RunFits.{needs_come_first, leases_fit}
 use Rattle.settling_laws.proofs.OneEachRules.{settled_one_each}
 use Rattle.settling_laws.proofs.Rests.{settled_has_no_place}
 use Rattle.run_table.proofs.RunnerPut.{apart, found_by_name, has_the_name, holds_at, stood}
-use Rattle.table_model.proofs.Settles.{Settles}
+use Rattle.table_model.proofs.Settles.{Settles, admitted_stays}
 use Rattle.settling_laws.proofs.SettlingKeeps.{settling_settles}
 
 -- A kept lease was granted and names a leg of the run's plan, in an attempt up to the current one. If that is the
@@ -56,6 +59,8 @@ KeptAreHad most runs runners = (k : ℕ) (x : RunnerState) → slice_get runners
 
 pub record IsKept (t : TableState) : Type 0 where
   pub few_runs : length t.runs ≤ 100000
+  pub ids_follow : IdsFollow t.runs
+  pub numbers_follow : NumbersFollow t.runs
   pub deliveries_differ : DeliveriesDiffer t.runs
   pub attempts_are_given : AttemptsAreGiven t.runs
   pub fit : RunsFit t.runs
@@ -158,40 +163,42 @@ kept_is_of_a_leg most runs (last.Claim claim (given.Lease kept)) h = record {
 }
 kept_is_of_a_leg most runs (last.Done report) h = tt
 
--- the lease that is sent follows from the plan
-pub lease_reply_same : (runs next : List RunState) (p : LegSite) (n : ℕ) → plan_at next p.run p.job ≡ plan_at runs p.run p.job
+-- the lease that is sent follows from the run's identity
+pub lease_reply_same : (runs next : List RunState) (p : LegSite) (n : ℕ) → identity_at next p.run ≡ identity_at runs p.run
     → lease_at runs p n ≡ lease_at next p n
 lease_reply_same runs next p n same =
-    ap (λ (o : Option PlannedJob). record {
+    let reply : ℕ → Option PlannedJob → Leased = λ id o. record {
       lease = n;
-      run = p.run + 1;
+      run = id;
       job = option_map_or (λ planned. planned.id) o [];
       leg = p.leg;
       combo = option_map_or (λ leg. leg.combo) (option_and_then (λ planned. slice_get planned.legs p.leg) o) [];
-    }) (sym same)
+    } in
+    ap₂ reply (sym (same_id runs next p.run same)) (sym (plan_at_same runs next p.run p.job (same_admitted runs next p.run same)))
 
--- Runs keep their plans, their attempts do not decrease, and a leg keeps the lease that it had while its run stays at
+-- Runs keep their identities, their attempts do not decrease, and a leg keeps the lease that it had while its run stays at
 -- the same attempt.
 pub record StillHad (runs next : List RunState) : Type 0 where
   pub runs_stay : (r : ℕ) (x : RunState) → run_at runs r ≡ Some x
       → (y : RunState) × (run_at next r ≡ Some y) × (x.attempt ≤ y.attempt)
   pub had : (p : LegSite) (n : ℕ) (x y : RunState) → run_at runs p.run ≡ Some x → run_at next p.run ≡ Some y → y.attempt ≡ x.attempt
       → had_at runs p ≡ Some n → had_at next p ≡ Some n
-  pub plans : (r j : ℕ) (x : RunState) → run_at runs r ≡ Some x → plan_at next r j ≡ plan_at runs r j
+  pub identities : (r : ℕ) (x : RunState) → run_at runs r ≡ Some x → identity_at next r ≡ identity_at runs r
 
 pub kept_still_had : (most more : ℕ) (runs next : List RunState) → most ≤ more → StillHad runs next → (last : LastCommand)
     → KeptIsHad most runs last → KeptIsHad more next last
 kept_still_had most more runs next le still (last.Claim claim given.Nothing) h = tt
 kept_still_had most more runs next le still (last.Claim claim (given.Lease kept)) h =
     let (y, there, later) = still.runs_stay h.place.run h.run h.run_is in
-    let plan = still.plans h.place.run h.place.job h.run h.run_is in
+    let same = still.identities h.place.run h.run h.run_is in
+    let plan = plan_at_same runs next h.place.run h.place.job (same_admitted runs next h.place.run same) in
     record {
       place = h.place;
       run = y;
       run_is = there;
       job_is = h.job_is;
       planned = subst (λ (o : Option PlannedJob). h.place.leg < option_map_or (λ planned. length planned.legs) o 0) (sym plan) h.planned;
-      tells = h.tells ∙ lease_reply_same runs next h.place kept.lease_reply.lease plan;
+      tells = h.tells ∙ lease_reply_same runs next h.place kept.lease_reply.lease same;
       given = (h.given.0, omega (arith, h.given.1, le));
       attempt = (h.attempt.0, omega (arith, h.attempt.1, later));
       had = (λ e.
@@ -208,18 +215,18 @@ attempts_still_given runs next same given r y at =
     let f = from_map attempt (run_at runs r) y.attempt (sym (same r) ∙ ap (option_map attempt) at) in
     subst (λ (n : ℕ). (1 ≤ n) × (n ≤ last_attempt)) f.gives (given r f.value f.is)
 
--- runs of the same events at the same attempts
-pub stay_still_had : (runs next : List RunState) → ((r : ℕ) → admitted_at next r ≡ admitted_at runs r)
+-- the same runs at the same attempts
+pub stay_still_had : (runs next : List RunState) → ((r : ℕ) → identity_at next r ≡ identity_at runs r)
     → ((r : ℕ) → attempt_at next r ≡ attempt_at runs r) → ((p : LegSite) (n : ℕ) → had_at runs p ≡ Some n → had_at next p ≡ Some n)
     → StillHad runs next
-stay_still_had runs next events attempts had =
+stay_still_had runs next same attempts had =
     let attempt = λ (v : RunState). v.attempt in
     record {
       runs_stay = (λ r x at.
           let f = from_map attempt (run_at next r) x.attempt (attempts r ∙ ap (option_map attempt) at) in
           (f.value, f.is, omega (arith, f.gives)));
-      had = (λ p n x y at then_at same h. had p n h);
-      plans = (λ r j x at. plan_at_same runs next r j (events r));
+      had = (λ p n x y at then_at again h. had p n h);
+      identities = (λ r x at. same r);
     }
 
 -- ---- to and from the invariants at a fixpoint
@@ -227,6 +234,8 @@ stay_still_had runs next events attempts had =
 pub kept_from_sound : (t : TableState) → IsSound t → IsKept t
 kept_from_sound t s = record {
   few_runs = s.few_runs;
+  ids_follow = s.ids_follow;
+  numbers_follow = s.numbers_follow;
   deliveries_differ = s.deliveries_differ;
   attempts_are_given = s.attempts_are_given;
   fit = runs_fit t.runs s.jobs_are_the_plans s.run_phases_fit s.jobs_fit s.needs_finished_first s.leases_fit;
@@ -242,6 +251,8 @@ kept_from_sound t s = record {
 pub sound_from_kept : (t : TableState) → IsKept t → HasOneEach t.runs → first_site t.runs ≡ None → IsSound t
 sound_from_kept t s each rests = record {
   few_runs = s.few_runs;
+  ids_follow = s.ids_follow;
+  numbers_follow = s.numbers_follow;
   deliveries_differ = s.deliveries_differ;
   attempts_are_given = s.attempts_are_given;
   jobs_are_the_plans = jobs_are_the_plans t.runs s.fit;
@@ -283,7 +294,9 @@ deliveries_still_differ runs next same differ a b x y at bt e =
 pub kept_settles : (t : TableState) (next : List RunState) → IsKept t → Settles t.runs next → IsKept (record t { runs = next })
 kept_settles t next s settling = record {
   few_runs = subst (λ (n : ℕ). n ≤ 100000) (sym settling.stay.same_length) s.few_runs;
-  deliveries_differ = deliveries_still_differ t.runs next settling.stay.same_admitted s.deliveries_differ;
+  ids_follow = ids_stay t.runs next settling.stay.same_identity s.ids_follow;
+  numbers_follow = numbers_stay t.runs next settling.stay.same_identity s.numbers_follow;
+  deliveries_differ = deliveries_still_differ t.runs next (admitted_stays t.runs next settling.stay) s.deliveries_differ;
   attempts_are_given = attempts_still_given t.runs next settling.stay.same_attempt s.attempts_are_given;
   fit = settling.stay.fit;
   parallel_bounded = settling_bounded t.runs next settling s.parallel_bounded;
@@ -294,7 +307,7 @@ kept_settles t next s settling = record {
   lasts_are_own = s.lasts_are_own;
   kept_are_had =
       (λ k x e. kept_still_had t.last_lease t.last_lease t.runs next (omega arith)
-      (stay_still_had t.runs next settling.stay.same_admitted settling.stay.same_attempt (λ p n h. settling.same_had p ∙ h)) x.last
+      (stay_still_had t.runs next settling.stay.same_identity settling.stay.same_attempt (λ p n h. settling.same_had p ∙ h)) x.last
       (s.kept_are_had k x e));
 }
 

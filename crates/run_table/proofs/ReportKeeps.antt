@@ -31,7 +31,8 @@ use Rattle.settling_laws.proofs.HolderPlaces.{each_leg_place}
 use Rattle.run_table.proofs.Kept.{IsKept, KeptIsHad, StillHad, attempts_still_given, stay_still_had, kept_settles, kept_still_had, deliveries_still_differ}
 use Rattle.table_model.proofs.LeaseReads.{ChangesAt, place_or_another, lease_ended, leases_same}
 use Rattle.table_model.proofs.LegReads.{had_at, works_at, had_is, had_from_leg, works_from_leg, leg_from_had, work_parts}
-use Rattle.table_model.proofs.Settles.{StayFit, stay_on}
+use Rattle.table_model.proofs.Numbered.{ids_stay, numbers_stay}
+use Rattle.table_model.proofs.Settles.{StayFit, admitted_stays, stay_on}
 use Rattle.run_table.proofs.RunnerOrder.{names_still_rise}
 use Rattle.run_table.proofs.RunnerPut.{each_put, holds_at, holds_changes, stood}
 use Rattle.table_model.proofs.StopKeeps.{stop_settles}
@@ -112,13 +113,15 @@ module _ (t : TableState) (new : RunnerState) (lease : ℕ) (result : Outcome) (
       (ended_fits result z.lease lease from.gives) in
       let changes = had_changes t.runs p z f from.is in
       let same = same_had p z from.is changes in
-      let still : StillHad t.runs next = stay_still_had t.runs next stay.same_admitted stay.same_attempt (λ q n h. same q ∙ h) in
+      let still : StillHad t.runs next = stay_still_had t.runs next stay.same_identity stay.same_attempt (λ q n h. same q ∙ h) in
       record {
         few_runs = subst (λ (n : ℕ). n ≤ 100000) (sym stay.same_length) s.few_runs;
-        deliveries_differ = deliveries_still_differ t.runs next stay.same_admitted s.deliveries_differ;
+        ids_follow = ids_stay t.runs next stay.same_identity s.ids_follow;
+        numbers_follow = numbers_stay t.runs next stay.same_identity s.numbers_follow;
+        deliveries_differ = deliveries_still_differ t.runs next (admitted_stays t.runs next stay) s.deliveries_differ;
         attempts_are_given = attempts_still_given t.runs next stay.same_attempt s.attempts_are_given;
         fit = stay.fit;
-        parallel_bounded = fewer_at_work t.runs next stay.fit stay.same_admitted
+        parallel_bounded = fewer_at_work t.runs next stay.fit (admitted_stays t.runs next stay)
             (λ q n e. worked_before q p n (works_changes t.runs p z f from.is) e) s.parallel_bounded;
         agree = leases_same t.last_lease (had_at t.runs) (works_at next) (had_at next) (works_at next)
             (holds_at (with_runner t.runners new)) (holds_at (with_runner t.runners new)) same (λ q. refl) (λ k. refl)

@@ -147,6 +147,8 @@ step_keeps t c s = stepped_is_sound t c s
 pub empty_is_sound : IsSound empty
 empty_is_sound = record {
   few_runs = omega arith;
+  ids_follow = (λ r x e. absurd (none-some x e));
+  numbers_follow = (λ r x e. absurd (none-some x e));
   deliveries_differ = (λ a b x y e f g. cc);
   attempts_are_given = (λ r x e. absurd (none-some x e));
   jobs_are_the_plans = (λ r x e. cc);

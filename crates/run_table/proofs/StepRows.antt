@@ -38,6 +38,8 @@ use Rattle.table_model.specs.declared.holder.Holder.TheVariants.{Leg}
 abbrev pub run_with : List ℕ → RunPhase → List JobState → RunState
 run_with body phase jobs =
     record {
+      id = 1;
+      number = 1;
       admitted = record { delivery = codes "d1"; event = codes "push"; body = body };
       attempt = 1;
       phase = phase;

@@ -9,6 +9,7 @@ use Rattle.wf_reader.specs.declared.flag.Flag.TheVariants as flag
 use Rattle.run_plan.specs.PlanOf.{plan_of}
 use Rattle.definitions.specs.SmallText.{Admitted}
 use Rattle.run_plan.specs.declared.planned.PlannedJob.{PlannedJob}
+use Rattle.table_model.specs.LegContext.{number_of_next}
 use Rattle.table_model.specs.Runs.{LegState, JobState, RunState}
 use Rattle.table_model.specs.ViewText.{seen_of, seen_text, run_text}
 use Rattle.table_model.specs.declared.phases.JobPhase.{JobPhase}
@@ -92,6 +93,8 @@ admitted body = record { delivery = codes "d1"; event = codes "push"; body = bod
 abbrev completed_run : List ℕ → RunState
 completed_run body =
     record {
+      id = 1;
+      number = 1;
       admitted = admitted body;
       attempt = 1;
       phase = phase.Ended;
@@ -115,8 +118,7 @@ look_at_a_second_attempt body planned_so = ap (λ plan. codes "run 1 1.2 " ++ ru
 -- the number counts the runs of the same repository and path: here the third run is the second of its workflow
 numbered_by_workflow : (ci cd : List ℕ) → (event_of ci).repo ≡ codes "o/r" → (event_of cd).repo ≡ codes "o/r"
     → (event_of ci).path ≡ codes "ci.json" → (event_of cd).path ≡ codes "cd.json"
-    → seen_of (completed_run ci ∷ completed_run cd ∷ completed_run ci ∷ completed_run ci ∷ []) 3
-    ≡ Some (record { id = 3; number = 2; run = completed_run ci })
+    → number_of_next (completed_run ci ∷ completed_run cd ∷ []) (admitted ci) ≡ 2
 numbered_by_workflow ci cd ci_repo cd_repo ci_path cd_path = simp (ci_repo, cd_repo, ci_path, cd_path)
 
 no_such_run : (body : List ℕ) → seen_of (completed_run body ∷ []) 2 ≡ None

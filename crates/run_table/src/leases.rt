@@ -1,14 +1,12 @@
 //! What is kept of a lease with the reply to its claim, and whether a leg has it.
 
 ghost use Rattle.std.specs.Option.{option_map_or};
-ghost use Rattle.std.specs.Prelude.{◌≡◌, ◌<◌, Ok, false};
-ghost use Rattle.definitions.specs.Limits.{max_runs};
+ghost use Rattle.std.specs.Prelude.{◌≡◌, ◌<◌, Ok, false, length};
 ghost use Rattle.wf_value.specs.Gives.{Gives};
 ghost use Rattle.table_model.specs.Fitting.{has_lease};
 ghost use Rattle.table_model.specs.Runs.{leg_at};
 ghost use Rattle.table_model.specs.Step.{kept_lease, lease_at};
 
-use crate::table_data::id_of;
 use run_plan::{KeptLease, Lease, Number};
 use std::alloc::Global;
 use table_model::LegSite;
@@ -25,7 +23,7 @@ pub fn kept_lease(
     site: LegSite,
     lease: Number,
 ) -> Result<KeptLease, Refusal>
-    requires { site.run < max_runs }
+    requires { site.run < length runs.now }
     ensures { Gives (λ k. k) result (Ok (kept_lease runs.now attempt site lease)) }
 {
     Ok(KeptLease {
@@ -37,12 +35,12 @@ pub fn kept_lease(
 
 /// The lease as it is sent to the runner that gets the leg.
 fn lease_at(alloc: Global, runs: &Runs, site: LegSite, lease: Number) -> Result<Lease, Refusal>
-    requires { site.run < max_runs }
+    requires { site.run < length runs.now }
     ensures { Gives (λ l. l) result (Ok (lease_at runs.now site lease)) }
 {
     Ok(Lease {
         lease,
-        run: id_of(site.run),
+        run: runs.id(site.run),
         job: runs.job_id(alloc, site.run, site.job)?,
         leg: site.leg,
         combo: runs.combo(alloc, site)?,

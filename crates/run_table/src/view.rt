@@ -17,8 +17,6 @@ const VIEW_ROOM: usize = 64;
 /// The view of a run: its id, its number among the runs of its workflow, and the run itself.
 #[derive(Drop)]
 pub struct RunView<'a> {
-    id: Number,
-    number: usize,
     run: &'a Run,
 }
 
@@ -27,21 +25,21 @@ impl<'a> Model for RunView<'a> {
 
     ghost Value = { Seen };
 
-    ghost view = { λ v. record { id = v.id; number = v.number; run = v.run.now } };
+    ghost view = { λ v. record { id = v.run.now.id; number = v.run.now.number; run = v.run.now } };
 }
 
 impl<'a> RunView<'a> {
     pub fn id(&self) -> Number
         ensures { result ≡ self.now.id }
     {
-        self.id
+        self.run.id()
     }
 
     /// Its number among the runs of its workflow.
-    pub fn number(&self) -> usize
+    pub fn number(&self) -> Number
         ensures { result ≡ self.now.number }
     {
-        self.number
+        self.run.number()
     }
 
     pub fn run(&self) -> &Run
@@ -54,9 +52,9 @@ impl<'a> RunView<'a> {
     pub fn text(&self, alloc: Global) -> Result<Chars, Refusal>
         ensures { Gives (λ t. t) result (Ok (seen_text self.now)) }
     {
-        let id = self.id.get();
-        let number = self.number;
         let run = self.run;
+        let id = run.id().get();
+        let number = run.number().get();
         let jobs = run.jobs();
         let status = status_word(run.phase(), jobs);
         let conclusion = conclusion_word(run.phase(), jobs);
@@ -70,7 +68,7 @@ impl<'a> RunView<'a> {
 }
 
 /// The number of a run, followed by the attempt from the second one on.
-fn number_text(alloc: Global, number: usize, attempt: u32) -> Result<String, AllocError>
+fn number_text(alloc: Global, number: u32, attempt: u32) -> Result<String, AllocError>
     ensures { IfOk result (λ s. string_bytes s ≡ number_text number attempt) }
 {
     if attempt <= 1 {
@@ -86,6 +84,5 @@ pub fn look(runs: &Runs, id: Number) -> Option<RunView<'_>>
 {
     let index = id.get() as usize - 1;
     let run = runs.as_slice().get(index)?;
-    let number = runs.number(index)?;
-    Some(RunView { id, number, run })
+    Some(RunView { run })
 }

@@ -4,7 +4,7 @@ ghost use Rattle.std.specs.List.{position};
 ghost use Rattle.std.specs.Option.{option_map_or};
 ghost use Rattle.definitions.specs.Limits.{max_runs};
 ghost use Rattle.wf_value.specs.Gives.{Gives};
-ghost use Rattle.table_model.specs.LegContext.{facts_at, combo_at, job_id};
+ghost use Rattle.table_model.specs.LegContext.{facts_at, combo_at, id_at, job_id};
 ghost use Rattle.table_model.specs.Runs.{is_delivered_as, job_at, leg_at, plan_at, run_at};
 ghost use Rattle.table_model.specs.Fitting.{most_at_work};
 ghost use Rattle.table_runs.specs.StoredSizes.{max_run_size, run_size};
@@ -24,7 +24,7 @@ mod stops;
 use crate::rows::Rows;
 use group_book::Book;
 use run_marks::RunBitmap;
-use run_plan::{DeliveryId, PlannedJob};
+use run_plan::{DeliveryId, Number, PlannedJob};
 use std::alloc::Global;
 use std::marker::Model;
 use table_bindings::LegView;
@@ -92,6 +92,14 @@ impl Runs {
         ensures most { result ≤ max_runs }
     {
         self.rows.runs.len()
+    }
+
+    /// The id of run `r`.
+    pub fn id(&self, r: usize) -> Number
+        requires { r < length self.now }
+        ensures { result ≡ id_at self.now r }
+    {
+        self.rows.runs[r].id()
     }
 
     /// The plan of job `j` of run `r`.

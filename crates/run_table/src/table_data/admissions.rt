@@ -9,7 +9,7 @@ ghost use Rattle.table_model.specs.Step.{admission_answer, admitted, admitting, 
 use crate::table_data::{TableData, id_of, refused};
 use run_plan::{Prepared, Reply};
 use std::alloc::Global;
-use table_model::{MAX_RUNS, Run};
+use table_model::MAX_RUNS;
 use wf_value::{Code, Refusal};
 
 impl TableData {
@@ -55,8 +55,7 @@ impl TableData {
         ensures err { OnErr result (self.new ≡ self.old) }
     {
         let index = self.runs.len();
-        let run = Run::of_event(alloc, prepared)?;
-        self.runs.admit(alloc, run)?;
+        self.runs.admit(alloc, prepared)?;
         Ok(Reply::Created(id_of(index)))
     }
 }

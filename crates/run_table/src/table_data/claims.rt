@@ -2,7 +2,7 @@
 
 ghost use Rattle.std.specs.Prelude.{◌≡◌, ◌<◌, true, length, Ok, IfErr, IfOk, OnErr, IsOk, is_some, Some};
 ghost use Rattle.std.specs.Option.{option_map_or};
-ghost use Rattle.definitions.specs.Limits.{last_number, max_runs};
+ghost use Rattle.definitions.specs.Limits.{last_number};
 ghost use Rattle.wf_value.specs.Gives.{Gives, no_memory};
 ghost use Rattle.table_model.specs.Fitting.{first_fit};
 ghost use Rattle.table_model.specs.Sound.{IsSound};
@@ -96,7 +96,6 @@ impl TableData {
     ) -> Result<(Reply, Reply), Refusal>
         requires sound { IsSound self.old }
         requires index { index ≡ index_named self.old.runners claim.now.runner }
-        requires run { leg.run < max_runs }
         requires fits { first_fit claim.now.labels self.old.runs ≡ Some leg }
         requires left { self.old.last_lease < last_number }
         ensures step { Gives (λ replies. (self.new, replies.0)) result (Ok (outcome (leasing self.old claim.now leg))) }
@@ -121,8 +120,7 @@ fn runner_and_replies(
     site: LegSite,
     lease: Number,
 ) -> Result<(Runner, BoxedLease, BoxedLease), Refusal>
-    requires run { site.run < max_runs }
-    requires there { site.run < length runs.now }
+    requires { site.run < length runs.now }
     ensures runner { let at = kept_lease_at runs.now site lease in
         IfOk result (λ kept. kept.0 ≡ claiming_runner claim.now (Some lease) (given.Lease at)) }
     ensures lease_reply { IfOk result (λ kept. kept.1 ≡ lease_at runs.now site lease) }

@@ -1,11 +1,9 @@
-use Rattle.std.proofs.Common.{◌≡◌, List, None, true, ap, refl, subst, sym}
-use Rattle.table_model.specs.Groups.{run_waits}
+use Rattle.std.proofs.Common.{◌≡◌, List, None, ap, subst, sym}
 use Rattle.table_model.specs.Runs.{RunState}
 use Rattle.table_model.specs.Settling.{first_site}
 use Rattle.table_model.specs.TableState.{TableState}
 use Rattle.run_table.proofs.BeforeSettling.{sound_as_they_are, sound_with_it}
 use Rattle.run_table.proofs.table_data.TableData.enter.Goals as goal
-use Rattle.wf_value.proofs.PassedOn.{same_Ok}
 
 pub admit-requires-clause-sound : goal.admit-requires-clause-sound
 admit-requires-clause-sound c =
@@ -19,9 +17,4 @@ admit-requires-clause-rests c =
 -- the run comes after those of the table
 pub admit-requires-clause-added : goal.admit-requires-clause-added
 admit-requires-clause-added c =
-    sound_with_it c.args.self.now c.args.prepared.now c.self.inside.runs c.in_ok-run.run' c.requires.sound
-    (ap (λ (t : TableState). t.runs) c.self.view_is) (sym (same_Ok _ _ c.in_ok-run.ensures))
-
--- it is new, so it waits
-pub admit-requires-clause-waits : goal.admit-requires-clause-waits
-admit-requires-clause-waits c = subst (λ (x : RunState). run_waits x.phase ≡ true) (same_Ok _ _ c.in_ok-run.ensures) refl
+    sound_with_it c.args.self.now c.args.prepared.now c.self.inside.runs c.requires.sound (ap (λ (t : TableState). t.runs) c.self.view_is)

@@ -22,8 +22,8 @@ put-requires c =
     c.requires.index ∙ ap (λ (t : TableState). index_named t.runners c.args.claim.now.runner) (sym c.self.view_is)
     ∙ ap (λ (r : RunnerState). index_named c.self.inside.runners r.name) (sym c.in_ok-runner.ensures.runner)
 
-pub runner_and_replies-requires-clause-there : goal.runner_and_replies-requires-clause-there
-runner_and_replies-requires-clause-there c =
+pub runner_and_replies-requires : goal.runner_and_replies-requires
+runner_and_replies-requires c =
     let t = c.args.self.now in
     let p = c.args.leg in
     let ready = fitting_leg c.args.claim.now.labels t.runs p c.requires.fits in
