@@ -1,22 +1,23 @@
 -- The group of a holder, and whether its arrival cancels what is in progress, are the same in every later table.
-use Rattle.std.specs.Prelude.{◌≡◌, ℕ, zero, suc, ◌<◌, List, [], ◌∷◌, ◌++◌, length, false, Option, Some, None}
+use Rattle.std.specs.Prelude.{◌≡◌, ℕ, List, [], ◌∷◌, ◌++◌, length, false, Option, Some, None}
 use Rattle.std.specs.Prelude.{option_map, option_and_then, refl}
 use Rattle.std.specs.Option.{option_map_or, unwrap_or}
 use Rattle.std.proofs.Common.{arith, ap, inl, inr, sym, ◌∙◌}
 use Rattle.std.proofs.lemmas.Bool.{cases_eq}
-use Rattle.std.proofs.lemmas.Option.{slice_get-map, slice_get_past, slice_get_within}
+use Rattle.std.proofs.lemmas.Option.{slice_get_past}
 use Rattle.group_name.specs.Group.{Group, same_group}
 use Rattle.definitions.specs.SmallText.{Admitted}
 use Rattle.table_model.specs.Groups.{cancels_in_progress, group_at, leg_cancels, run_cancels, run_facts_at, is_in}
 use Rattle.table_model.specs.Holders.{run_of}
-use Rattle.table_model.specs.LegContext.{facts_at, events}
-use Rattle.table_model.specs.Runs.{new_run, leg_at, run_at, LegState, RunState}
+use Rattle.table_model.specs.LegContext.{facts_at, next_run}
+use Rattle.table_model.specs.Runs.{leg_at, run_at, LegState, RunState}
 use Rattle.table_model.specs.declared.sites.LegSite.{LegSite}
 use Rattle.table_model.proofs.Found.{at_the_end, before_the_end}
+use Rattle.table_model.proofs.Identity.{Identity, identity_at, identity_in, identity_of}
 use Rattle.table_model.proofs.JobKeeps.{leg_in}
-use Rattle.table_model.proofs.LegFacts.{SameUpTo, attempt_at, facts_stay}
+use Rattle.table_model.proofs.LegFacts.{attempt_at, facts_stay}
 use Rattle.table_model.proofs.NeedsSettled.{KeepsResults, result_in, result_so_far}
-use Rattle.table_model.proofs.RunFits.{RunsFit, admitted_at}
+use Rattle.table_model.proofs.RunFits.{RunsFit}
 use Rattle.table_model.proofs.Settles.{StayFit}
 use Rattle.settling_laws.proofs.GroupStays.{leg_group_same, leg_needs_finished, run_facts_stay, run_group_stays}
 use Rattle.settling_laws.proofs.OneEach.{IsOneOf}
@@ -24,20 +25,20 @@ use Rattle.table_laws.specs.Names.{attempt_of}
 use Rattle.table_model.specs.declared.holder.Holder.{Holder}
 use Rattle.table_model.specs.declared.holder.Holder.TheVariants.{Run, Leg}
 
--- The earlier runs keep their indices, their events and their attempts, and finished jobs keep their results. The added runs are at their
+-- The earlier runs keep their indices, their identities and their attempts, and finished jobs keep their results. The added runs are at their
 -- first attempt, so no holder gets another name.
 pub record Grows (runs later : List RunState) : Type 0 where
-  pub same_admitted : (r : ℕ) (a : Admitted) → admitted_at runs r ≡ Some a → admitted_at later r ≡ Some a
+  pub same_identity : (r : ℕ) (i : Identity) → identity_at runs r ≡ Some i → identity_at later r ≡ Some i
   pub same_attempt : (r n : ℕ) → attempt_at runs r ≡ Some n → attempt_at later r ≡ Some n
   pub keeps_results : (r : ℕ) → KeepsResults runs later r
   pub same_names : (h : Holder) → attempt_of later h ≡ attempt_of runs h
 
 pub grows_not : (runs : List RunState) → Grows runs runs
-grows_not runs = record { same_admitted = (λ r a e. e); same_attempt = (λ r n e. e); keeps_results = (λ r j a e. e); same_names = (λ h. refl) }
+grows_not runs = record { same_identity = (λ r i e. e); same_attempt = (λ r n e. e); keeps_results = (λ r j a e. e); same_names = (λ h. refl) }
 
 pub grows_on : (a b c : List RunState) → Grows a b → Grows b c → Grows a c
 grows_on a b c f g = record {
-  same_admitted = (λ r x e. g.same_admitted r x (f.same_admitted r x e));
+  same_identity = (λ r i e. g.same_identity r i (f.same_identity r i e));
   same_attempt = (λ r n e. g.same_attempt r n (f.same_attempt r n e));
   keeps_results = (λ r j x e. g.keeps_results r j x (f.keeps_results r j x e));
   same_names = (λ h. g.same_names h ∙ f.same_names h);
@@ -49,7 +50,7 @@ first_or (Some x) = refl
 
 pub stays_grows : (runs next : List RunState) → StayFit runs next → Grows runs next
 stays_grows runs next stay = record {
-  same_admitted = (λ r a e. stay.same_admitted r ∙ e);
+  same_identity = (λ r i e. stay.same_identity r ∙ e);
   same_attempt = (λ r n e. stay.same_attempt r ∙ e);
   keeps_results = stay.keeps_results;
   same_names = (λ h. first_or (run_at next (run_of h)) ∙ ap (λ o. unwrap_or o 1) (stay.same_attempt (run_of h)) ∙ sym (first_or (run_at runs (run_of h))));
@@ -61,43 +62,30 @@ past_the_end runs r same = slice_get_past runs r (omega (arith, same))
 none_is_none : {X : Type 0} (o : Option X) (x : X) → o ≡ None → o ≡ Some x → ⊥
 none_is_none o x none some = cc
 
-pub new_run_grows : (runs : List RunState) (event : Admitted) → Grows runs (runs ++ new_run event ∷ [])
+pub new_run_grows : (runs : List RunState) (event : Admitted) → Grows runs (runs ++ next_run runs event ∷ [])
 new_run_grows runs event = record {
-  same_admitted = (λ r a e. elim (cases_eq r (length runs)) [
-    | inl same ↦ absurd (none_is_none (admitted_at runs r) a (ap (option_map (λ (x : RunState). x.admitted)) (past_the_end runs r same)) e)
-    | inr other ↦ ap (option_map (λ (x : RunState). x.admitted)) (before_the_end runs (new_run event) r other) ∙ e
+  same_identity = (λ r i e. elim (cases_eq r (length runs)) [
+    | inl same ↦ absurd (none_is_none (identity_at runs r) i (ap identity_in (past_the_end runs r same)) e)
+    | inr other ↦ ap identity_in (before_the_end runs (next_run runs event) r other) ∙ e
   ]);
   same_attempt = (λ r n e. elim (cases_eq r (length runs)) [
     | inl same ↦ absurd (none_is_none (attempt_at runs r) n (ap (option_map (λ (x : RunState). x.attempt)) (past_the_end runs r same)) e)
-    | inr other ↦ ap (option_map (λ (x : RunState). x.attempt)) (before_the_end runs (new_run event) r other) ∙ e
+    | inr other ↦ ap (option_map (λ (x : RunState). x.attempt)) (before_the_end runs (next_run runs event) r other) ∙ e
   ]);
   keeps_results = (λ r j a e. elim (cases_eq r (length runs)) [
     | inl same ↦
         absurd (none_is_none (result_so_far runs r j) a (ap (option_and_then (λ (x : RunState). result_in x j))
         (past_the_end runs r same)) e)
-    | inr other ↦ ap (option_and_then (λ (x : RunState). result_in x j)) (before_the_end runs (new_run event) r other) ∙ e
+    | inr other ↦ ap (option_and_then (λ (x : RunState). result_in x j)) (before_the_end runs (next_run runs event) r other) ∙ e
   ]);
   same_names = (λ h. elim (cases_eq (run_of h) (length runs)) [
     | inl same ↦
-        ap (λ (k : ℕ). option_map_or (λ x. x.attempt) (run_at (runs ++ new_run event ∷ []) k) 1) same
-        ∙ ap (λ o. option_map_or (λ x. x.attempt) o 1) (at_the_end runs (new_run event))
+        ap (λ (k : ℕ). option_map_or (λ x. x.attempt) (run_at (runs ++ next_run runs event ∷ []) k) 1) same
+        ∙ ap (λ o. option_map_or (λ x. x.attempt) o 1) (at_the_end runs (next_run runs event))
         ∙ sym (ap (λ o. option_map_or (λ x. x.attempt) o 1) (past_the_end runs (run_of h) same))
-    | inr other ↦ ap (λ o. option_map_or (λ x. x.attempt) o 1) (before_the_end runs (new_run event) (run_of h) other)
+    | inr other ↦ ap (λ o. option_map_or (λ x. x.attempt) o 1) (before_the_end runs (next_run runs event) (run_of h) other)
   ]);
 }
-
--- ---- the events up to a run that exists
-
-event_there : (runs : List RunState) (s : ℕ) → s < length runs → (x : Admitted) × (admitted_at runs s ≡ Some x)
-event_there [] s within = absurd (omega (arith, within))
-event_there (x ∷ xs) zero within = (x.admitted, refl)
-event_there (x ∷ xs) (suc s) within = event_there xs s (omega (arith, within))
-
-same_up_to : (runs later : List RunState) → Grows runs later → (r : ℕ) → r < length runs → SameUpTo r (events later) (events runs)
-same_up_to runs later grows r within s le =
-    let event = event_there runs s (omega (arith, le, within)) in
-    slice_get-map (λ (x : RunState). x.admitted) later s ∙ grows.same_admitted s event.0 event.1 ∙ sym event.1
-    ∙ sym (slice_get-map (λ (x : RunState). x.admitted) runs s)
 
 -- ---- a holder that exists
 
@@ -112,6 +100,11 @@ unfolding cancels_in_progress
 run_cancels_same runs later r same = ap (λ o. option_map_or run_cancels o false) same
 
 module _ (runs later : List RunState) (fit : RunsFit runs) (grows : Grows runs later) where
+  identity_kept : (r : ℕ) (x : RunState) → run_at runs r ≡ Some x → identity_at later r ≡ identity_at runs r
+  identity_kept r x at =
+      let is : identity_at runs r ≡ Some (identity_of x) = ap identity_in at in
+      grows.same_identity r (identity_of x) is ∙ sym is
+
   attempt_kept : (r : ℕ) (x : RunState) → run_at runs r ≡ Some x → attempt_at later r ≡ attempt_at runs r
   attempt_kept r x at =
       let is : attempt_at runs r ≡ Some x.attempt = ap (option_map (λ (y : RunState). y.attempt)) at in
@@ -120,20 +113,17 @@ module _ (runs later : List RunState) (fit : RunsFit runs) (grows : Grows runs l
   leg_facts_kept : (p : LegSite) (z : LegState) → leg_at runs p ≡ Some z → facts_at later p ≡ facts_at runs p
   leg_facts_kept p z at =
       let place = leg_in runs p z at in
-      facts_stay runs later p (same_up_to runs later grows p.run (slice_get_within runs p.run place.place.run place.place.run_is))
+      facts_stay runs later p (identity_kept p.run place.place.run place.place.run_is)
       (attempt_kept p.run place.place.run place.place.run_is)
       (leg_needs_finished runs fit p z at) (grows.keeps_results p.run)
 
-  run_events_kept : (r : ℕ) (x : RunState) → run_at runs r ≡ Some x → SameUpTo r (events later) (events runs)
-  run_events_kept r x at = same_up_to runs later grows r (slice_get_within runs r x at)
-
   pub group_kept : (h : Holder) → IsOneOf runs h → group_at later h ≡ group_at runs h
-  group_kept (Run r) there = run_group_stays runs later r (run_events_kept r there.0 there.1) (attempt_kept r there.0 there.1)
+  group_kept (Run r) there = run_group_stays runs later r (identity_kept r there.0 there.1) (attempt_kept r there.0 there.1)
   group_kept (Leg p) there = leg_group_same runs later p (leg_facts_kept p there.0 there.1)
 
   pub cancels_kept : (h : Holder) → IsOneOf runs h → cancels_in_progress later h ≡ cancels_in_progress runs h
   cancels_kept (Run r) there =
-      run_cancels_same runs later r (run_facts_stay runs later r (run_events_kept r there.0 there.1) (attempt_kept r there.0 there.1))
+      run_cancels_same runs later r (run_facts_stay runs later r (identity_kept r there.0 there.1) (attempt_kept r there.0 there.1))
   cancels_kept (Leg p) there = leg_cancels_same runs later p (leg_facts_kept p there.0 there.1)
 
   pub is_in_kept : (g : Group) (h : Holder) → IsOneOf runs h → is_in later g h ≡ is_in runs g h

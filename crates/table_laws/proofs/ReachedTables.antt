@@ -16,8 +16,9 @@ use Rattle.run_plan.specs.declared.command.Command.TheVariants as command
 use Rattle.run_plan.specs.declared.last_command.ClaimReply.TheVariants as given
 use Rattle.run_plan.specs.declared.reply.Reply.{Reply}
 use Rattle.run_plan.specs.declared.reply.Reply.TheVariants as reply
-use Rattle.table_model.specs.Runs.{changed_at, leg_at, run_at, with_job, with_leg, with_run, again, new_run, leased_leg}
+use Rattle.table_model.specs.Runs.{changed_at, leg_at, run_at, with_job, with_leg, with_run, again, leased_leg}
 use Rattle.table_model.specs.Fitting.{first_fit, site_of_lease}
+use Rattle.table_model.specs.LegContext.{next_run}
 use Rattle.table_model.specs.Step.{after, replies, empty, at_rest_after, entered, unchanged, admission_answer, admitting, admitted}
 use Rattle.table_model.specs.GroupLaw.{Move}
 use Rattle.table_model.specs.TableState.{Step, TableState, runner_named, with_runner}
@@ -35,15 +36,15 @@ use Rattle.run_table.proofs.AdmitKeeps.{no_lease, same_reads}
 use Rattle.run_table.proofs.BeginsAgain.{begins_again}
 use Rattle.run_table.proofs.ClaimKeeps.{fitting_leg, had_changes, leasing_keeps, serving_keeps}
 use Rattle.run_table.proofs.Entered.{entered_keeps, entered_settles}
-use Rattle.run_table.proofs.EnteredAgain.{again_admitted, entered_again_keeps, entered_again_settles}
+use Rattle.run_table.proofs.EnteredAgain.{again_identity, entered_again_keeps, entered_again_settles}
 use Rattle.table_model.proofs.Changed.{at_another, at_changed}
 use Rattle.table_model.proofs.Found.{before_the_end}
 use Rattle.run_table.proofs.Kept.{IsKept, kept_from_sound, kept_settles, lease_reply_same}
+use Rattle.table_model.proofs.Identity.{Identity, identity_at, identity_in, identity_of}
 use Rattle.table_model.proofs.JobKeeps.{leg_in, with_job_of, with_leg_of}
 use Rattle.table_model.proofs.LeaseReads.{place_or_another}
 use Rattle.table_model.proofs.LegReads.{had_at, had_in, had_in_job, had_from_leg}
 use Rattle.run_table.proofs.ReportKeeps.{loss_keeps, report_keeps}
-use Rattle.table_model.proofs.RunFits.{admitted_at, plan_at_same}
 use Rattle.settling_laws.proofs.SettlingKeeps.{settling_settles}
 use Rattle.run_table.proofs.StepKeeps.{empty_is_sound, run_to_cancel, stepped_is_sound}
 use Rattle.table_model.proofs.StopKeeps.{same_reads as stopped_reads, stopped_run_settles}
@@ -72,7 +73,7 @@ mapped_by_change h f same zero (x ∷ xs) (suc k) = refl
 mapped_by_change h f same (suc i) (x ∷ xs) zero = refl
 mapped_by_change h f same (suc i) (x ∷ xs) (suc k) = mapped_by_change h f same i xs k
 
--- ---- no end and no stop changes a lease or an event
+-- ---- no end and no stop changes a lease or an identity
 
 job_keeps_leases : (r j : ℕ) (f : JobState → JobState) (q : LegSite) → ((y : JobState) → had_in_job (f y) q.leg ≡ had_in_job y q.leg)
     → (runs : List RunState) → had_at (with_job r j f runs) q ≡ had_at runs q
@@ -99,15 +100,15 @@ after_end_keeps_leases p o q runs =
       | false ↦ end_keeps_leases p o q runs
     ]
 
-after_end_keeps_events : (p : LegSite) (o : Outcome) (r : ℕ) (runs : List RunState)
-    → admitted_at (after_end p o runs) r ≡ admitted_at runs r
-after_end_keeps_events p o r runs =
+after_end_keeps_identity : (p : LegSite) (o : Outcome) (r : ℕ) (runs : List RunState)
+    → identity_at (after_end p o runs) r ≡ identity_at runs r
+after_end_keeps_identity p o r runs =
     let ended = with_leg p (leg_in_phase (leg.Ended o)) runs in
     let change = with_job_of p.job (with_leg_of p.leg (leg_in_phase (leg.Ended o))) in
-    let one = mapped_by_change (λ (x : RunState). x.admitted) change (λ x. refl) p.run runs r in
+    let one = mapped_by_change identity_of change (λ x. refl) p.run runs r in
     elim (stops_others runs p o) as
-    (λ b. admitted_at (if b then with_job p.run p.job with_stopped_legs ended else ended) r ≡ admitted_at runs r) [
-      | true ↦ mapped_by_change (λ (x : RunState). x.admitted) (with_job_of p.job with_stopped_legs) (λ x. refl) p.run ended r ∙ one
+    (λ b. identity_at (if b then with_job p.run p.job with_stopped_legs ended else ended) r ≡ identity_at runs r) [
+      | true ↦ mapped_by_change identity_of (with_job_of p.job with_stopped_legs) (λ x. refl) p.run ended r ∙ one
       | false ↦ one
     ]
 
@@ -119,12 +120,12 @@ with_ended_keeps_leases lease o q runs =
       | Some p ↦ after_end_keeps_leases p o q runs
     ]
 
-with_ended_keeps_events : (lease : ℕ) (o : Outcome) (r : ℕ) (runs : List RunState)
-    → admitted_at (with_ended lease o runs) r ≡ admitted_at runs r
-with_ended_keeps_events lease o r runs =
-    elim (site_of_lease runs lease) as (λ place. admitted_at (option_map_or (λ p. after_end p o runs) place runs) r ≡ admitted_at runs r) [
+with_ended_keeps_identity : (lease : ℕ) (o : Outcome) (r : ℕ) (runs : List RunState)
+    → identity_at (with_ended lease o runs) r ≡ identity_at runs r
+with_ended_keeps_identity lease o r runs =
+    elim (site_of_lease runs lease) as (λ place. identity_at (option_map_or (λ p. after_end p o runs) place runs) r ≡ identity_at runs r) [
       | None ↦ refl
-      | Some p ↦ after_end_keeps_events p o r runs
+      | Some p ↦ after_end_keeps_identity p o r runs
     ]
 
 -- ---- what a step leaves
@@ -134,15 +135,15 @@ record NewLease (t : TableState) (c : Command) (s : Step) (p : LegSite) (n : ℕ
   claim : Claimed
   claims : c ≡ command.Claim claim
   answer : s.reply ≡ reply.Lease (lease_at t.runs p n)
-  event : Admitted
-  event_is : admitted_at t.runs p.run ≡ Some event
+  identity : Identity
+  identity_is : identity_at t.runs p.run ≡ Some identity
 
 record Reads (t : TableState) (c : Command) (s : Step) : Type 0 where
-  same_admitted : (r : ℕ) (a : Admitted) → admitted_at t.runs r ≡ Some a → admitted_at s.table.runs r ≡ Some a
+  same_identity : (r : ℕ) (x : Identity) → identity_at t.runs r ≡ Some x → identity_at s.table.runs r ≡ Some x
   had_before : (p : LegSite) (n : ℕ) → had_at s.table.runs p ≡ Some n → (had_at t.runs p ≡ Some n) ⊎ NewLease t c s p n
 
 unchanged_reads : (t : TableState) (c : Command) (r : Reply) → Reads t c (unchanged t r)
-unchanged_reads t c r = record { same_admitted = (λ i a e. e); had_before = (λ p n e. inl e) }
+unchanged_reads t c r = record { same_identity = (λ i x e. e); had_before = (λ p n e. inl e) }
 
 either_reads : (t : TableState) (c : Command) (answer : Option Reply) (change : Step) → (answer ≡ None → Reads t c change)
     → Reads t c (option_map_or (unchanged t) answer change)
@@ -151,13 +152,13 @@ either_reads t c (Some r) change h = unchanged_reads t c r
 
 -- the table settles and keeps its leases
 rest_reads : (t : TableState) (c : Command) (moves : List Move) (mid : TableState) (r : Reply) → IsKept mid
-    → ((i : ℕ) (a : Admitted) → admitted_at t.runs i ≡ Some a → admitted_at mid.runs i ≡ Some a)
+    → ((i : ℕ) (x : Identity) → identity_at t.runs i ≡ Some x → identity_at mid.runs i ≡ Some x)
     → ((p : LegSite) (n : ℕ) → had_at mid.runs p ≡ Some n → (had_at t.runs p ≡ Some n) ⊎ NewLease t c (at_rest_after moves mid r) p n)
     → Reads t c (at_rest_after moves mid r)
-rest_reads t c moves mid r kept events leases =
+rest_reads t c moves mid r kept identities leases =
     let settling = settling_settles mid.runs kept.fit in
     record {
-      same_admitted = (λ i a e. settling.stay.same_admitted i ∙ events i a e);
+      same_identity = (λ i x e. settling.stay.same_identity i ∙ identities i x e);
       had_before = (λ p n e. leases p n (sym (settling.same_had p) ∙ e));
     }
 
@@ -168,15 +169,14 @@ admit_reads t event s =
     let arrival = entered_settles t event (kept_from_sound t s).fit in
     rest_reads t (command.Admit event) (entered t event).moves (record t { runs = (entered t event).runs })
     (reply.Created (length t.runs + 1)) (entered_keeps t event (kept_from_sound t s) none)
-    (λ i a e. arrival.stay.same_admitted i ∙ events_stay i a e)
+    (λ i x e. arrival.stay.same_identity i ∙ identities_stay i x e)
     (λ p n e. inl (sym (same_reads t.runs event (λ z. z.lease) p) ∙ sym (arrival.same_had p) ∙ e)))
   where
-    events_stay : (i : ℕ) (a : Admitted) → admitted_at t.runs i ≡ Some a → admitted_at (t.runs ++ new_run event ∷ []) i ≡ Some a
-    events_stay i a e =
+    identities_stay : (i : ℕ) (x : Identity) → identity_at t.runs i ≡ Some x → identity_at (t.runs ++ next_run t.runs event ∷ []) i ≡ Some x
+    identities_stay i x e =
         elim (cases_eq i (length t.runs)) [
-          | inl same ↦ absurd (none-some a
-              (sym (ap (option_map (λ (x : RunState). x.admitted)) (slice_get_past t.runs i (omega (arith, same)))) ∙ e))
-          | inr other ↦ ap (option_map (λ (x : RunState). x.admitted)) (before_the_end t.runs (new_run event) i other) ∙ e
+          | inl same ↦ absurd (none-some x (sym (ap identity_in (slice_get_past t.runs i (omega (arith, same)))) ∙ e))
+          | inr other ↦ ap identity_in (before_the_end t.runs (next_run t.runs event) i other) ∙ e
         ]
 
 leasing_reads : (t : TableState) (claim : Claimed) (p : LegSite) → IsSound t → claim_answer t claim ≡ None
@@ -194,7 +194,7 @@ leasing_reads t claim p s none fit =
       runners =
           with_runner t.runners (claiming_runner claim (Some lease) (given.Lease (kept_lease_at t.runs p lease)));
     }) (reply.Lease told) (leasing_keeps t claim p (kept_from_sound t s) none fit)
-    (λ i a e. mapped_by_change (λ (x : RunState). x.admitted) (with_job_of p.job (with_leg_of p.leg (λ _. leased_leg lease))) (λ x. refl)
+    (λ i a e. mapped_by_change identity_of (with_job_of p.job (with_leg_of p.leg (λ _. leased_leg lease))) (λ x. refl)
     p.run t.runs i ∙ e)
     (λ q n e. elim (place_or_another q p) [
       | inl same ↦
@@ -205,9 +205,8 @@ leasing_reads t claim p s none fit =
             claims = refl;
             answer = ap (λ (v : LegSite). reply.Lease (lease_at t.runs v lease)) (sym same)
                 ∙ ap (λ (m : ℕ). reply.Lease (lease_at t.runs q m)) number;
-            event = at.place.run.admitted;
-            event_is = ap (λ (v : LegSite). admitted_at t.runs v.run) same
-                ∙ ap (option_map (λ (x : RunState). x.admitted)) at.place.run_is;
+            identity = identity_of at.place.run;
+            identity_is = ap (λ (v : LegSite). identity_at t.runs v.run) same ∙ ap identity_in at.place.run_is;
           })
       | inr other ↦ inl (sym (changes.elsewhere q other) ∙ e)
     ])
@@ -229,7 +228,7 @@ report_reads t report s =
     (λ none. rest_reads t (command.Done report) (lease_end_moves report.lease report.result t.runs)
     (record t { runs = with_ended report.lease report.result t.runs; runners = with_runner t.runners (reporting_runner report) }) reply.Ok
     (report_keeps t report (kept_from_sound t s) none)
-    (λ i a e. with_ended_keeps_events report.lease report.result i t.runs ∙ e)
+    (λ i a e. with_ended_keeps_identity report.lease report.result i t.runs ∙ e)
     (λ p n e. inl (sym (with_ended_keeps_leases report.lease report.result p t.runs) ∙ e)))
 
 cancel_reads : (t : TableState) (id : ℕ) → IsSound t → Reads t (command.Cancel id) (cancelled t id)
@@ -241,7 +240,7 @@ cancel_reads t id s =
     let next = with_run (id - 1) stopped_run t.runs in
     rest_reads t (command.Cancel id) (stop_holder (Run (id - 1)) t.runs).moves (record t { runs = next }) reply.Ok
     (kept_settles t next (kept_from_sound t s) stop)
-    (λ i a e. stop.stay.same_admitted i ∙ e) (λ p n e. inl (sym (stop.same_had p) ∙ e)))
+    (λ i x e. stop.stay.same_identity i ∙ e) (λ p n e. inl (sym (stop.same_had p) ∙ e)))
 
 -- the legs of the run that begins again are gone
 legs_before : (runs : List RunState) (r : ℕ) (p : LegSite) (n : ℕ) → had_at (with_run r again runs) p ≡ Some n → had_at runs p ≡ Some n
@@ -267,7 +266,7 @@ rerun_reads t requested s =
     let entry = entered_again_settles t r kept.fit in
     rest_reads t (command.Rerun requested) (entered_again t r).moves (record t { runs = (entered_again t r).runs }) (reply.Again requested)
     (entered_again_keeps t r requested.attempt kept begins)
-    (λ i a e. entry.stay.same_admitted i ∙ again_admitted t.runs r i ∙ e)
+    (λ i x e. entry.stay.same_identity i ∙ again_identity t.runs r i ∙ e)
     (λ p n e. inl (legs_before t.runs r p n (sym (entry.same_had p) ∙ e))))
 
 loss_reads : (t : TableState) (name : List ℕ) → IsSound t → Reads t (command.Lost name) (lost t name)
@@ -286,7 +285,7 @@ loss_reads t name s =
                 rest_reads t requested (lease_end_moves lease outcome t.runs)
                 (record t { runs = with_ended lease outcome t.runs; runners = with_runner t.runners (released runner) }) reply.Ok
                 (loss_keeps t name runner lease (kept_from_sound t s) is holds)
-                (λ i a e. with_ended_keeps_events lease outcome i t.runs ∙ e)
+                (λ i a e. with_ended_keeps_identity lease outcome i t.runs ∙ e)
                 (λ p n e. inl (sym (with_ended_keeps_leases lease outcome p t.runs) ∙ e))
           ] refl
     ] refl
@@ -305,17 +304,16 @@ step_reads t (command.Rerun requested) s = rerun_reads t requested s
 
 -- ---- what a list of commands leaves
 
-events_after : (t : TableState) (commands : List Command) → IsSound t → (r : ℕ) (a : Admitted) → admitted_at t.runs r ≡ Some a
-    → admitted_at (after t commands).runs r ≡ Some a
-events_after t [] s r a e = e
-events_after t (c ∷ cs) s r a e =
-    events_after (stepped t c).table cs (stepped_is_sound t c s) r a ((step_reads t c s).same_admitted r a e)
+identities_after : (t : TableState) (commands : List Command) → IsSound t → (r : ℕ) (x : Identity) → identity_at t.runs r ≡ Some x
+    → identity_at (after t commands).runs r ≡ Some x
+identities_after t [] s r x e = e
+identities_after t (c ∷ cs) s r x e =
+    identities_after (stepped t c).table cs (stepped_is_sound t c s) r x ((step_reads t c s).same_identity r x e)
 
--- what a runner learns about a leg follows from the plan
-same_lease : (runs next : List RunState) (p : LegSite) (n : ℕ) (a : Admitted) → admitted_at runs p.run ≡ Some a
-    → admitted_at next p.run ≡ Some a → lease_at runs p n ≡ lease_at next p n
-same_lease runs next p n a before now =
-    lease_reply_same runs next p n (plan_at_same runs next p.run p.job (now ∙ sym before))
+-- what a runner learns about a leg follows from the run's identity
+same_lease : (runs next : List RunState) (p : LegSite) (n : ℕ) (x : Identity) → identity_at runs p.run ≡ Some x
+    → identity_at next p.run ≡ Some x → lease_at runs p n ≡ lease_at next p n
+same_lease runs next p n x before now = lease_reply_same runs next p n (now ∙ sym before)
 
 leased_from : (t : TableState) (commands : List Command) → IsSound t → (p : LegSite) (n : ℕ) → had_at (after t commands).runs p ≡ Some n
     → (had_at t.runs p ≡ Some n) ⊎ WasAnswered commands (replies t commands) (lease_at (after t commands).runs p n)
@@ -329,12 +327,12 @@ leased_from t (c ∷ cs) s p n e =
       | inl had ↦ elim (reads.had_before p n had) [
         | inl before ↦ inl before
         | inr new ↦
-            let later = events_after next cs sound p.run new.event (reads.same_admitted p.run new.event new.event_is) in
+            let later = identities_after next cs sound p.run new.identity (reads.same_identity p.run new.identity new.identity_is) in
             inr (
               0,
               new.claim,
               ap Some new.claims,
-              ap Some (new.answer ∙ ap (λ l. reply.Lease l) (same_lease t.runs (after next cs).runs p n new.event new.event_is later)),
+              ap Some (new.answer ∙ ap (λ l. reply.Lease l) (same_lease t.runs (after next cs).runs p n new.identity new.identity_is later)),
             )
       ]
     ]

@@ -89,7 +89,7 @@ module _ (names : Names) (g : Group) (requests : Holder → Bool) (t : TableStat
   same_group_then : (h : Holder) → IsOneOf t.runs h → (run_of h ≡ r → ⊥) → is_in reached g h ≡ is_in t.runs g h
   same_group_then h there other =
       is_in_kept now reached (again_fits t.runs r fit) (again_grows t r x begins.there fit) g h (one_elsewhere t.runs r again h other there)
-      ∙ ap (λ o. option_map_or (same_group g) o false) (group_beside t.runs r fit h there other)
+      ∙ ap (λ o. option_map_or (same_group g) o false) (group_beside t.runs r h other)
 
   -- ---- while the run is parked, they match the status of each holder
 
@@ -284,7 +284,7 @@ module _ (names : Names) (g : Group) (requests : Holder → Bool) (t : TableStat
       let requests_now = λ (h : Holder) (e : cancels h ≡ true). (and_parts (requests (name_in names reached h)) (cancels_in_progress reached h) e).1 in
       let first = arrival_keeps reached g cancels requests_now parked now n (again_fits t.runs r fit)
       (arrives_alone t.runs r x begins.there fit begins.ended) (again_comes t.runs r x begins.there fit begins.ended)
-      (again_waits t.runs r x begins.there) (beside_again t.runs r fit s.one_of_each_group)
+      (again_waits t.runs r x begins.there) (beside_again t.runs r s.one_of_each_group)
       (again_still t.runs r x begins.there fit begins.ended (again_fits t.runs r fit)) (entry_grows t r x begins.there fit) start start
       (parked_so_far cancels) (λ is. own_here n (here_itself n refl)) in
       let rest = settled_keeps reached g cancels requests_now (remaining_phases entered.runs) entered.runs (entered_fits t r x begins.there fit)

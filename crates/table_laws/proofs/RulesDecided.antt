@@ -26,7 +26,7 @@ use Rattle.table_model.proofs.Changed.{holds_of_each}
 use Rattle.table_model.proofs.JobKeeps.{job_in}
 use Rattle.table_model.proofs.JobPhases.{is_open_open}
 use Rattle.table_model.proofs.RunFits.{RunsFit, job_in_run}
-use Rattle.table_model.proofs.Settles.{Settles}
+use Rattle.table_model.proofs.Settles.{Settles, admitted_stays}
 use Rattle.table_model.proofs.Transitions.{changed_none}
 use Rattle.settling_laws.proofs.EachRule.{by_rule}
 use Rattle.settling_laws.proofs.HoldersKeep.{displaced_settles, holder_stop_settles, no_run}
@@ -123,7 +123,7 @@ arrival_decided newcomer runs fit all =
 
 -- if the change keeps what settling keeps, and each job was decided by the old runs
 decided_after : (runs next : List RunState) → Decided runs → NowDecided runs next → Settles runs next → Decided next
-decided_after runs next all now settles = all_decided runs next all settles.stay.same_admitted settles.stay.keeps_results now
+decided_after runs next all now settles = all_decided runs next all (admitted_stays runs next settles.stay) settles.stay.keeps_results now
 
 pub rule_decided : (runs : List RunState) (m : Transition) (site : RuleSite) → RunsFit runs → LivePlace runs site → rule_at runs site ≡ Some m
     → Decided runs → Decided m.runs

@@ -18,7 +18,8 @@ use Rattle.run_plan.specs.declared.reply.Reply.{Reply}
 use Rattle.table_model.specs.Fitting.{first_fit, site_of_lease}
 use Rattle.table_model.specs.Step.{after, empty, entered, unchanged, admission_answer, admitting, admitted, claim_answer, leasing}
 use Rattle.table_model.specs.TableState.{Step, TableState, runner_named}
-use Rattle.table_model.specs.Runs.{run_at, with_job, with_leg, with_run, again, new_run, leased_leg, JobState, RunState}
+use Rattle.table_model.specs.Runs.{run_at, with_job, with_leg, with_run, again, leased_leg, JobState, RunState}
+use Rattle.table_model.specs.LegContext.{next_run}
 use Rattle.table_model.specs.declared.sites.LegSite.{LegSite}
 use Rattle.table_model.specs.Settling.{leg_in_phase}
 use Rattle.table_model.specs.Sound.{IsSound}
@@ -49,23 +50,23 @@ use Rattle.table_model.specs.declared.holder.Holder.TheVariants.{Run}
 -- ---- a new run
 
 module _ (runs : List RunState) (event : Admitted) (all : Decided runs) where
-  blocked_decided : (r j : ℕ) (y : JobState) (x : RunState) → new_run event ≡ x → slice_get x.jobs j ≡ Some y
-      → JobDecided (runs ++ new_run event ∷ []) r j y.phase
+  blocked_decided : (r j : ℕ) (y : JobState) (x : RunState) → next_run runs event ≡ x → slice_get x.jobs j ≡ Some y
+      → JobDecided (runs ++ next_run runs event ∷ []) r j y.phase
   blocked_decided r j y x is e =
-      subst (λ (v : JobState). JobDecided (runs ++ new_run event ∷ []) r j v.phase)
+      subst (λ (v : JobState). JobDecided (runs ++ next_run runs event ∷ []) r j v.phase)
       (job_is_blocked (plan_of event.body) j y (ap (λ (v : RunState). slice_get v.jobs j) is ∙ e)) tt
 
-  new_run_decided : Decided (runs ++ new_run event ∷ [])
+  new_run_decided : Decided (runs ++ next_run runs event ∷ [])
   new_run_decided r j y at =
-      let next = runs ++ new_run event ∷ [] in
+      let next = runs ++ next_run runs event ∷ [] in
       let new = job_in next r j y at in
       elim (cases_eq r (length runs)) [
         | inl s ↦
             blocked_decided r j y new.run
-            (same_Some (new_run event) new.run (sym (at_the_end runs (new_run event)) ∙ ap (slice_get next) (sym s) ∙ new.run_is))
+            (same_Some (next_run runs event) new.run (sym (at_the_end runs (next_run runs event)) ∙ ap (slice_get next) (sym s) ∙ new.run_is))
             new.job_is
         | inr n ↦
-            let before = before_the_end runs (new_run event) r n in
+            let before = before_the_end runs (next_run runs event) r n in
             decided_stays runs next all r (ap (option_map (λ (v : RunState). v.admitted)) before)
             (λ i a had. ap (option_and_then (λ (v : RunState). result_in v i)) before ∙ had) j y.phase
             (all r j y (job_in_run runs r j new.run (sym before ∙ new.run_is) ∙ new.job_is))
@@ -109,7 +110,7 @@ admitted_decided t event s all =
     (λ none.
     let fit = (kept_from_sound t s).fit in
     settled_decided (entered t event).runs (entered_settles t event fit).stay.fit
-    (arrival_decided (Run (length t.runs)) (t.runs ++ new_run event ∷ []) (all_fit t.runs event fit)
+    (arrival_decided (Run (length t.runs)) (t.runs ++ next_run t.runs event ∷ []) (all_fit t.runs event fit)
     (new_run_decided t.runs event all)))
 
 claiming_decided : (t : TableState) (claim : Claimed) → IsSound t → Decided t.runs → claim_answer t claim ≡ None

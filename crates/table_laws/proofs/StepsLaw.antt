@@ -1,6 +1,6 @@
 -- Each step preserves the law of every group.
 use Rattle.std.specs.Prelude.{◌≡◌, ◌⊎◌, ℕ, ◌+◌, ◌-◌, List, [], ◌∷◌, ◌++◌, length, Bool, true, false, Option, Some, None}
-use Rattle.std.specs.Prelude.{option_map}
+use Rattle.std.specs.Prelude.{map, option_map}
 use Rattle.std.specs.Prelude.{slice_get, if◌then◌else◌, refl}
 use Rattle.std.specs.Option.{option_map_or}
 use Rattle.std.proofs.Common.{ap, inl, inr, sym, ◌∙◌, subst}
@@ -29,7 +29,8 @@ use Rattle.table_model.specs.declared.sites.LegSite.{LegSite}
 use Rattle.table_model.specs.Settling.{remaining_phases, settled, settling}
 use Rattle.table_model.specs.Sound.{IsSound}
 use Rattle.table_model.specs.Step.{admission_answer, admitted, admitting, at_rest_after, cancel_answer, cancelled, serving_nothing, stepped}
-use Rattle.table_model.specs.Runs.{blocked_job, leased_leg, new_run}
+use Rattle.table_model.specs.Runs.{blocked_job, leased_leg}
+use Rattle.table_model.specs.LegContext.{next_run}
 use Rattle.table_model.specs.Step.{cancelling, claim_answer, claimed, claiming, claiming_runner, entered, kept_lease_at, lease_at, leasing, losing, lost}
 use Rattle.table_model.specs.Stops.{lease_end_moves, with_ended, end_moves, legs_stop_moves, others_stop_moves, stop_holder}
 use Rattle.table_model.specs.Step.{refused, released, report_answer, reported, reporting, reporting_runner, rerun, rerun_answer, rerunning}
@@ -73,7 +74,8 @@ use Rattle.table_model.specs.declared.holder.Holder.TheVariants.{Run, Leg}
 
 -- ---- a new run
 
-pub no_leg_yet : (j l : ℕ) (event : Admitted) → status_in_run j l (new_run event) ≡ Status.unarrived
+pub no_leg_yet : (j l : ℕ) (event : Admitted)
+    → status_by (status_in_job l) (slice_get (map (λ _. blocked_job) (plan_of event.body)) j) ≡ Status.unarrived
 no_leg_yet j l event = ap (status_by (status_in_job l)) (slice_get-map (λ _. blocked_job) (plan_of event.body) j)
     ∙ none (slice_get (plan_of event.body) j)
   where
@@ -85,9 +87,9 @@ module _ (runs : List RunState) (event : Admitted) where
   new_is_unseen : status runs (Run (length runs)) ≡ Status.unarrived
   new_is_unseen = ap (status_by status_of_run) (past_the_end runs (length runs) refl)
 
-  new_run_tells : Tells runs (record { runs = runs ++ new_run event ∷ []; moves = Move.arrive (Run (length runs)) ∷ [] })
+  new_run_tells : Tells runs (record { runs = runs ++ next_run runs event ∷ []; moves = Move.arrive (Run (length runs)) ∷ [] })
   new_run_tells (Run r) =
-      let next = runs ++ new_run event ∷ [] in
+      let next = runs ++ next_run runs event ∷ [] in
       let n = Run (length runs) in
       let arrives : List Move = Move.arrive n ∷ [] in
       elim (cases_eq r (length runs)) [
@@ -97,18 +99,18 @@ module _ (runs : List RunState) (event : Admitted) where
             (goes_by n (status runs n) (status next n) (own n arrives) arrives (sym (ap (λ b. if b then arrives else []) (itself n)))
             (subst (λ (s : Status). Goes n s arrives (status next n)) (sym new_is_unseen)
             (subst (λ (s : Status). Goes n Status.unarrived arrives s) (sym (ap (status_by status_of_run) (at_the_end runs
-            (new_run event))))
+            (next_run runs event))))
             (goes_to_arrive n))))
         | inr other ↦
             let h = Run r in
             goes_by h (status runs h) (status next h) (own h arrives) [] (sym (only_one n (Move.arrive n) refl h (λ e. other (run_is r e))))
-            (goes_same h (status runs h) (status next h) (ap (status_by status_of_run) (before_the_end runs (new_run event) r other)))
+            (goes_same h (status runs h) (status next h) (ap (status_by status_of_run) (before_the_end runs (next_run runs event) r other)))
       ]
     where
       run_is : (r : ℕ) → Run r ≡ Run (length runs) → r ≡ length runs
       run_is r e = cc
   new_run_tells (Leg q) =
-      let next = runs ++ new_run event ∷ [] in
+      let next = runs ++ next_run runs event ∷ [] in
       let n = Run (length runs) in
       let h = Leg q in
       let arrives : List Move = Move.arrive n ∷ [] in
@@ -116,15 +118,15 @@ module _ (runs : List RunState) (event : Admitted) where
       (goes_same h (status runs h) (status next h) (status_by_run next q ∙ same_leg q ∙ sym (status_by_run runs q)))
     where
       same_leg : (q : LegSite)
-          → status_by (status_in_run q.job q.leg) (run_at (runs ++ new_run event ∷ []) q.run) ≡ status_by (status_in_run q.job q.leg)
+          → status_by (status_in_run q.job q.leg) (run_at (runs ++ next_run runs event ∷ []) q.run) ≡ status_by (status_in_run q.job q.leg)
           (run_at runs q.run)
       same_leg q =
           let of_leg = status_by (status_in_run q.job q.leg) in
           elim (cases_eq q.run (length runs)) [
             | inl same ↦
-                ap (λ (k : ℕ). of_leg (run_at (runs ++ new_run event ∷ []) k)) same ∙ ap of_leg (at_the_end runs (new_run event))
+                ap (λ (k : ℕ). of_leg (run_at (runs ++ next_run runs event ∷ []) k)) same ∙ ap of_leg (at_the_end runs (next_run runs event))
                 ∙ no_leg_yet q.job q.leg event ∙ sym (ap of_leg (past_the_end runs q.run same))
-            | inr other ↦ ap of_leg (before_the_end runs (new_run event) q.run other)
+            | inr other ↦ ap of_leg (before_the_end runs (next_run runs event) q.run other)
           ]
 
 -- ---- the leg with a lease ends
@@ -262,7 +264,7 @@ module _ (g : Group) where
   admit_says t event s =
       either_says t (admission_answer t event) (admitting t event) (λ none.
       let kept = kept_from_sound t s in
-      let now = t.runs ++ new_run event ∷ [] in
+      let now = t.runs ++ next_run t.runs event ∷ [] in
       let n = Run (length t.runs) in
       let u = record t { runs = (entered t event).runs } in
       let fit_u = (entered_keeps t event kept none).fit in
@@ -273,7 +275,7 @@ module _ (g : Group) where
       (grows_on t.runs now u.runs (new_run_grows t.runs event) entry)
       (λ cancels requests. first_arrival_keeps (settled u.runs) g cancels requests t.runs now n (all_fit t.runs event kept.fit)
       (new_run_tells t.runs event)
-      (new_is_unseen t.runs event) comes (new_run_waits t.runs event) (groups_before t.runs (new_run event) kept.fit) s.one_of_each_group
+      (new_is_unseen t.runs event) comes (new_run_waits t.runs event) (groups_before t.runs (next_run t.runs event)) s.one_of_each_group
       (new_run_still t.runs event (all_fit t.runs event kept.fit) (new_run_waits t.runs event))
       (stays_grows u.runs (settled u.runs) (settling_settles u.runs fit_u).stay)))
 

@@ -12,7 +12,8 @@ use Rattle.run_plan.specs.declared.command.Command.{Command}
 use Rattle.run_plan.specs.declared.command.Command.TheVariants as command
 use Rattle.run_plan.specs.declared.reply.Reply.{Reply}
 use Rattle.table_model.specs.Fitting.{first_fit}
-use Rattle.table_model.specs.Runs.{leased_leg, new_run, with_leg, LegState, RunState}
+use Rattle.table_model.specs.LegContext.{next_run}
+use Rattle.table_model.specs.Runs.{leased_leg, with_leg, LegState, RunState}
 use Rattle.table_model.specs.Settling.{settled}
 use Rattle.table_model.specs.Stops.{with_ended, stop_holder, outcome_of_loss}
 use Rattle.table_model.specs.Step.{admission_answer, admitting, cancel_answer, cancelling, claim_answer, claiming, entered}
@@ -44,14 +45,14 @@ module _ {X : Type 0} (read : RunState → X) (of_course : IsOfCourse read) wher
   answered t None change h = h
   answered t (Some given) change h = keeps_itself t
 
-  pub entered_stays : (t : TableState) (event : Admitted) → reads (admitting t event).table.runs ≡ reads t.runs ++ read (new_run event) ∷ []
+  pub entered_stays : (t : TableState) (event : Admitted) → reads (admitting t event).table.runs ≡ reads t.runs ++ read (next_run t.runs event) ∷ []
   entered_stays t event =
-      let more = t.runs ++ new_run event ∷ [] in
+      let more = t.runs ++ next_run t.runs event ∷ [] in
       settled_stays read of_course (entered t event).runs ∙ arrived_stays read of_course (Run (length t.runs)) more
-      ∙ map-append read t.runs (new_run event ∷ [])
+      ∙ map-append read t.runs (next_run t.runs event ∷ [])
 
   admits : (t : TableState) (event : Admitted) → Keeps t (admitting t event).table
-  admits t event = (read (new_run event) ∷ [], entered_stays t event)
+  admits t event = (read (next_run t.runs event) ∷ [], entered_stays t event)
 
   claims : (t : TableState) (claim : Claimed) → Keeps t (claiming t claim).table
   claims t claim = elim (first_fit claim.labels t.runs) as

@@ -24,6 +24,7 @@ use Rattle.table_model.proofs.JobKeeps.{job_in}
 use Rattle.table_model.proofs.NeedsSettled.{needs_by_run}
 use Rattle.table_model.proofs.Optional.{from_map}
 use Rattle.table_model.proofs.RunFits.{RunsFit, job_in_run}
+use Rattle.table_model.proofs.Settles.{admitted_stays}
 use Rattle.table_model.proofs.StopKeeps.{get_placed, stopped_run_settles}
 use Rattle.table_laws.proofs.AncestorsSettled.{has_result}
 use Rattle.table_laws.proofs.Decided.{JobDecided, Decided, decided_stays}
@@ -87,7 +88,7 @@ module _ (runs : List RunState) (fit : RunsFit runs) (all : Decided runs) (r : �
   still : (k l : ℕ) (y : JobState) → job_at runs k l ≡ Some y → JobDecided (with_run r stopped_run runs) k l y.phase
   still k l y at =
       let stay = (stopped_run_settles runs fit r x was).stay in
-      decided_stays runs (with_run r stopped_run runs) all k (stay.same_admitted k) (stay.keeps_results k) l y.phase (all k l y at)
+      decided_stays runs (with_run r stopped_run runs) all k (admitted_stays runs (with_run r stopped_run runs) stay k) (stay.keeps_results k) l y.phase (all k l y at)
 
   cancelled_at : x.phase ≡ run.Waiting → run_at (with_run r stopped_run runs) r ≡ Some (cancelled x)
   cancelled_at is = at_changed r stopped_run runs ∙ ap (option_map stopped_run) was ∙ ap (λ p. Some (stopped_in p x)) is

@@ -11,12 +11,12 @@ use Rattle.wf_value.specs.declared.outcome.JobResult.TheVariants as result
 use Rattle.wf_value.specs.declared.outcome.Outcome.{Outcome}
 use Rattle.wf_value.specs.declared.outcome.Outcome.TheVariants as outcome
 use Rattle.definitions.specs.SmallText.{Admitted}
-use Rattle.table_model.specs.Runs.{changed_at, new_run, job_at, leg_at, run_at, with_job, with_leg, with_run, LegState, JobState, RunState}
+use Rattle.table_model.specs.Runs.{changed_at, job_at, leg_at, run_at, with_job, with_leg, with_run, LegState, JobState, RunState}
 use Rattle.table_model.specs.Groups.{holds, leg_holds, leg_waits, run_waits, waits}
 use Rattle.table_model.specs.GroupLaw.{Transition, at_each}
 use Rattle.table_model.specs.declared.sites.LegSite.{LegSite}
 use Rattle.table_model.specs.Settling.{result_at}
-use Rattle.table_model.specs.LegContext.{may_run_in, planned_legs}
+use Rattle.table_model.specs.LegContext.{may_run_in, next_run, planned_legs}
 use Rattle.table_model.specs.Sound.{LeaseFits, PhaseFits}
 use Rattle.table_model.specs.Runs.{is_live, is_open, new_leg, run_in_phase, finished_as}
 use Rattle.table_model.specs.Stops.{stop_holder, with_stopped_legs}
@@ -374,22 +374,22 @@ waiting_unbegun runs fit (Leg p) waiting = λ z at.
 
 -- ---- a new run
 
-pub new_run_still : (runs : List RunState) (event : Admitted) (fit : RunsFit (runs ++ new_run event ∷ []))
-    → waits (runs ++ new_run event ∷ []) (Run (length runs)) ≡ true → AllStill runs (runs ++ new_run event ∷ [])
+pub new_run_still : (runs : List RunState) (event : Admitted) (fit : RunsFit (runs ++ next_run runs event ∷ []))
+    → waits (runs ++ next_run runs event ∷ []) (Run (length runs)) ≡ true → AllStill runs (runs ++ next_run runs event ∷ [])
 new_run_still runs event fit waiting (Run r) all =
     elim (cases_eq r (length runs)) [
       | inl same ↦
-          subst (λ (k : ℕ). Unbegun (runs ++ new_run event ∷ []) (Run k)) (sym same)
-          (waiting_unbegun (runs ++ new_run event ∷ []) fit (Run (length runs)) waiting)
-      | inr other ↦ subst (There RunUnbegun) (sym (before_the_end runs (new_run event) r other)) all
+          subst (λ (k : ℕ). Unbegun (runs ++ next_run runs event ∷ []) (Run k)) (sym same)
+          (waiting_unbegun (runs ++ next_run runs event ∷ []) fit (Run (length runs)) waiting)
+      | inr other ↦ subst (There RunUnbegun) (sym (before_the_end runs (next_run runs event) r other)) all
     ]
 new_run_still runs event fit waiting (Leg q) all =
-    let next = runs ++ new_run event ∷ [] in
+    let next = runs ++ next_run runs event ∷ [] in
     of_run next q
     (elim (cases_eq q.run (length runs)) [
       | inl same ↦ λ x at y is z e.
           let no_legs = (waiting_unbegun next fit (Run (length runs)) waiting x (ap (run_at next) (sym same)
           ∙ at)).no_legs q.job y is in
           let past : slice_get [] q.leg ≡ Some z = subst (λ (ls : List LegState). slice_get ls q.leg ≡ Some z) no_legs e in cc
-      | inr other ↦ subst (There (OfRun q.job q.leg)) (sym (before_the_end runs (new_run event) q.run other)) (by_run runs q all)
+      | inr other ↦ subst (There (OfRun q.job q.leg)) (sym (before_the_end runs (next_run runs event) q.run other)) (by_run runs q all)
     ])
