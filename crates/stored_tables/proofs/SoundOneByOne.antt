@@ -1,4 +1,5 @@
--- A table is sound exactly if each of its runs and runners is sound, no rule applies, and no delivery made two runs.
+-- A table whose ids and numbers follow from the places of its runs is sound exactly if each of its runs and runners is sound,
+-- no rule applies, and no delivery made two runs.
 use Rattle.std.specs.Prelude.{◌≡◌, ℕ, ◌≤◌, List, true, false, Option, Some, None, option_and_then, slice_get, refl}
 use Rattle.std.specs.Option.{option_map_or}
 use Rattle.std.proofs.Common.{ap, sym, ◌∙◌}
@@ -11,7 +12,7 @@ use Rattle.table_model.specs.Fitting.{is_at_work}
 use Rattle.table_model.specs.Runs.{leg_at, LegState, RunState}
 use Rattle.table_model.specs.declared.sites.LegSite.{LegSite}
 use Rattle.table_model.specs.Settling.{first_site}
-use Rattle.table_model.specs.Sound.{DeliveriesDiffer, IsAtWork, IsHeld, IsSound, KeptLeasesAreOfLegs}
+use Rattle.table_model.specs.Sound.{DeliveriesDiffer, IdsFollow, IsAtWork, IsHeld, IsSound, KeptLeasesAreOfLegs, NumbersFollow}
 use Rattle.table_model.specs.AsPlanned.{AreAsPlanned}
 use Rattle.table_model.specs.TableState.{RunnerState, TableState, names_rise}
 use Rattle.stored_tables.specs.declared.sound.leases.Leases.{Leases}
@@ -105,11 +106,13 @@ module _ (leases : Leases) (runs : List RunState) (runners : List RunnerState)
         let f = leg_from_had runs p n (found_has (lease_of_leg runs) n (leg_of leases n) p (legs n) is) in
         (p, f.value, f.is, f.gives, sym (ap (λ o. option_map_or (λ (y : LegState). is_at_work y.phase) o false) f.is) ∙ e)
 
-    pub to_sound : AreAsPlanned runs → names_rise runners ≡ true → KeptLeasesAreOfLegs leases.last runs runners
-        → leases.last ≤ 999999999
+    pub to_sound : AreAsPlanned runs → IdsFollow runs → NumbersFollow runs → names_rise runners ≡ true
+        → KeptLeasesAreOfLegs leases.last runs runners → leases.last ≤ 999999999
         → HasOneEach runs → first_site runs ≡ None → DeliveriesDiffer runs → IsSound (table_with leases runs runners)
-    to_sound planned rise kept last one rests differ = record {
+    to_sound planned ids numbers rise kept last one rests differ = record {
       few_runs = planned.few;
+      ids_follow = ids;
+      numbers_follow = numbers;
       deliveries_differ = differ;
       attempts_are_given = (λ r x at. (each r x at).attempt_is_given);
       jobs_are_the_plans = (λ r x at. (planned.each r x at).as_many);

@@ -1,5 +1,5 @@
 -- The parts of a table are those of at most one table: what is not stored follows from the rest.
-use Rattle.std.specs.Prelude.{◌≡◌, ℕ, suc, ◌+◌, ◌-◌, ◌&&◌, List, [], ◌∷◌, length, Option, Some, None, option_and_then, slice_get, refl, true}
+use Rattle.std.specs.Prelude.{◌≡◌, ℕ, suc, ◌+◌, ◌-◌, ◌≤◌, ◌&&◌, List, [], ◌∷◌, length, Option, Some, None, option_and_then, slice_get, refl, true}
 use Rattle.std.specs.Prelude.{IfOk, MatchOption, Result, Ok, Err}
 use Rattle.std.specs.Cmp.Lexicographic.{slice_cmp}
 use Rattle.std.specs.Option.{option_map_or}
@@ -17,7 +17,9 @@ use Rattle.run_plan.specs.declared.planned.PlannedJob.{PlannedJob}
 use Rattle.run_plan.specs.declared.reply.Lease.{Lease}
 use Rattle.table_model.specs.Runs.{leg_at, plan_at, run_at, LegState, RunState}
 use Rattle.table_model.specs.declared.sites.LegSite.{LegSite}
-use Rattle.table_model.specs.Sound.{IsOfALeg, IsSound, LeasesDiffer, LegsFit}
+use Rattle.table_model.specs.LegContext.{id_at}
+use Rattle.table_model.specs.Parts.{AreRunsOf}
+use Rattle.table_model.specs.Sound.{IdsFollow, IsOfALeg, IsSound, LeasesDiffer, LegsFit}
 use Rattle.table_model.specs.Step.{lease_at}
 use Rattle.stored_tables.specs.Stored.{RunnerParts, TableParts, stored_site}
 use Rattle.stored_tables.specs.TableOf.{AreRunnersAs, IsLastAs, IsLeaseAs, IsNoTable, IsPlacedAs, IsReplyAs, IsRunnerAs, IsStoredAs}
@@ -30,90 +32,105 @@ use Rattle.stored_tables.specs.declared.parts.StoredLease.{StoredLease}
 use Rattle.stored_tables.specs.declared.parts.StoredSite.{StoredSite}
 use Rattle.table_model.specs.declared.phases.JobPhase.{JobPhase}
 use Rattle.table_model.specs.declared.phases.JobPhase.TheVariants as job
+use Rattle.table_model.proofs.Numbered.{same_runs}
 use Rattle.table_model.proofs.RunFits.{job_in_run}
 
 -- ---- a kept lease follows from the runs
 
+-- the run at a place has the id that follows from it
+pub id_follows : (runs : List RunState) → IdsFollow runs → (r : ℕ) (x : RunState) → run_at runs r ≡ Some x → id_at runs r ≡ r + 1
+id_follows runs follow r x at = ap (λ o. option_map_or (λ (run : RunState). run.id) o 0) at ∙ follow r x at
+
+-- a run that has an id is there
+id_of : (runs : List RunState) → IdsFollow runs → (r : ℕ) (o : Option RunState) → run_at runs r ≡ o
+    → 1 ≤ option_map_or (λ (run : RunState). run.id) o 0 → option_map_or (λ (run : RunState). run.id) o 0 ≡ r + 1
+id_of runs follow r None at some = let no : 1 ≤ 0 = some in absurd (omega (arith, no))
+id_of runs follow r (Some x) at some = follow r x at
+
+pub id_there : (runs : List RunState) → IdsFollow runs → (r : ℕ) → 1 ≤ id_at runs r → id_at runs r ≡ r + 1
+id_there runs follow r some = id_of runs follow r (run_at runs r) refl some
+
 -- what a kept lease says of its place
-pub run_told : (most : ℕ) (runs : List RunState) (kept : KeptLease) (of : IsOfALeg most runs kept) → kept.lease_reply.run ≡ of.place.run + 1
-run_told most runs kept of = ap (λ (t : Lease). t.run) of.tells
+pub run_told : (most : ℕ) (runs : List RunState) → IdsFollow runs → (kept : KeptLease) (of : IsOfALeg most runs kept)
+    → kept.lease_reply.run ≡ of.place.run + 1
+run_told most runs follow kept of = ap (λ (t : Lease). t.run) of.tells ∙ id_follows runs follow of.place.run of.run of.run_is
 
 pub leg_told : (most : ℕ) (runs : List RunState) (kept : KeptLease) (of : IsOfALeg most runs kept) → kept.lease_reply.leg ≡ of.place.leg
 leg_told most runs kept of = ap (λ (t : Lease). t.leg) of.tells
 
 -- a leg has a lease of its run's current attempt
-pub present_has_it : (most : ℕ) (runs : List RunState) (kept : KeptLease) (of : IsOfALeg most runs kept) → IsPlacedAs runs None kept
-    → (x : LegState) × (leg_at runs of.place ≡ Some x) × (x.lease ≡ Some kept.lease_reply.lease)
-present_has_it most runs kept of present =
-    let r : kept.lease_reply.run - 1 ≡ of.place.run = omega (arith, run_told most runs kept of) in
+pub present_has_it : (most : ℕ) (runs : List RunState) → IdsFollow runs → (kept : KeptLease) (of : IsOfALeg most runs kept)
+    → IsPlacedAs runs None kept → (x : LegState) × (leg_at runs of.place ≡ Some x) × (x.lease ≡ Some kept.lease_reply.lease)
+present_has_it most runs follow kept of present =
+    let r : kept.lease_reply.run - 1 ≡ of.place.run = omega (arith, run_told most runs follow kept of) in
     of.has_it (present ∙ ap (λ k. option_map_or (λ (x : RunState). x.attempt) (run_at runs k) 0) r
     ∙ ap (λ o. option_map_or (λ (x : RunState). x.attempt) o 0) of.run_is)
 
 pub same_place : (p q : LegSite) → p.run ≡ q.run → p.job ≡ q.job → p.leg ≡ q.leg → p ≡ q
 same_place p q run job leg = λ i. record { run = run i; job = job i; leg = leg i }
 
-place_is : (most : ℕ) (runs : List RunState) → LeasesDiffer runs → (parts : StoredLease) (o : Option StoredSite) (a b : KeptLease)
+place_is : (most : ℕ) (runs : List RunState) → IdsFollow runs → LeasesDiffer runs → (parts : StoredLease) (o : Option StoredSite) (a b : KeptLease)
     → (of_a : IsOfALeg most runs a) (of_b : IsOfALeg most runs b) → a.lease_reply.lease ≡ b.lease_reply.lease → IsPlacedAs runs o a → IsPlacedAs runs o b
     → (of_a.place ≡ of_b.place) × (a.attempt ≡ b.attempt)
-place_is most runs differ parts None a b of_a of_b same at_a at_b =
-    let (x, is_x, has_x) = present_has_it most runs a of_a at_a in
-    let (y, is_y, has_y) = present_has_it most runs b of_b at_b in
+place_is most runs follow differ parts None a b of_a of_b same at_a at_b =
+    let (x, is_x, has_x) = present_has_it most runs follow a of_a at_a in
+    let (y, is_y, has_y) = present_has_it most runs follow b of_b at_b in
     let place : of_a.place ≡ of_b.place = differ of_a.place of_b.place x y b.lease_reply.lease is_x is_y (has_x ∙ ap Some same) has_y in
     let run : a.lease_reply.run ≡ b.lease_reply.run =
-    run_told most runs a of_a ∙ ap (λ (p : LegSite). p.run + 1) place ∙ sym (run_told most runs b of_b) in
+    run_told most runs follow a of_a ∙ ap (λ (p : LegSite). p.run + 1) place ∙ sym (run_told most runs follow b of_b) in
     (place, at_a ∙ ap (λ n. option_map_or (λ (x : RunState). x.attempt) (run_at runs (n - 1)) 0) run ∙ sym at_b)
-place_is most runs differ parts (Some stored) a b of_a of_b same at_a at_b =
+place_is most runs follow differ parts (Some stored) a b of_a of_b same at_a at_b =
     let one : stored_site a ≡ stored_site b = at_a ∙ sym at_b in
     let run : a.lease_reply.run ≡ b.lease_reply.run = ap (λ (p : StoredSite). p.run) one in
-    let first = run_told most runs a of_a in
-    let second = run_told most runs b of_b in (
+    let first = run_told most runs follow a of_a in
+    let second = run_told most runs follow b of_b in (
       same_place of_a.place of_b.place (omega (arith, run, first, second))
           (sym of_a.job_is ∙ ap (λ (p : StoredSite). p.job) one ∙ of_b.job_is)
           (sym (leg_told most runs a of_a) ∙ ap (λ (p : StoredSite). p.leg) one ∙ leg_told most runs b of_b),
       ap (λ (p : StoredSite). p.attempt) one,
     )
 
-same_lease : (most : ℕ) (runs : List RunState) → LeasesDiffer runs → (parts : StoredLease) (a b : KeptLease)
+same_lease : (most : ℕ) (runs : List RunState) → IdsFollow runs → LeasesDiffer runs → (parts : StoredLease) (a b : KeptLease)
     → IsLeaseAs most runs parts a → IsLeaseAs most runs parts b → a ≡ b
-same_lease most runs differ parts a b is_a is_b =
+same_lease most runs follow differ parts a b is_a is_b =
     let of_a = is_a.is_of_a_leg in
     let of_b = is_b.is_of_a_leg in
     let number : a.lease_reply.lease ≡ b.lease_reply.lease = is_a.lease ∙ sym is_b.lease in
-    let both = place_is most runs differ parts parts.place a b of_a of_b number is_a.place is_b.place in
+    let both = place_is most runs follow differ parts parts.place a b of_a of_b number is_a.place is_b.place in
     let lease_reply : a.lease_reply ≡ b.lease_reply = of_a.tells ∙ ap₂ (lease_at runs) both.0 number ∙ sym of_b.tells in
     let attempt : a.attempt ≡ b.attempt = both.1 in
     let job : a.job ≡ b.job = of_a.job_is ∙ ap (λ (p : LegSite). p.job) both.0 ∙ sym of_b.job_is in
     λ i. record { lease_reply = lease_reply i; attempt = attempt i; job = job i }
 
-same_reply : (most : ℕ) (runs : List RunState) → LeasesDiffer runs → (parts : Option StoredLease) (a b : ClaimReply)
+same_reply : (most : ℕ) (runs : List RunState) → IdsFollow runs → LeasesDiffer runs → (parts : Option StoredLease) (a b : ClaimReply)
     → IsReplyAs most runs parts a → IsReplyAs most runs parts b → a ≡ b
-same_reply most runs differ None given.Nothing given.Nothing is_a is_b = refl
-same_reply most runs differ None given.Nothing (given.Lease b) is_a is_b = absurd is_b
-same_reply most runs differ None (given.Lease a) given.Nothing is_a is_b = absurd is_a
-same_reply most runs differ None (given.Lease a) (given.Lease b) is_a is_b = absurd is_a
-same_reply most runs differ (Some parts) given.Nothing given.Nothing is_a is_b = refl
-same_reply most runs differ (Some parts) given.Nothing (given.Lease b) is_a is_b = absurd is_a
-same_reply most runs differ (Some parts) (given.Lease a) given.Nothing is_a is_b = absurd is_b
-same_reply most runs differ (Some parts) (given.Lease a) (given.Lease b) is_a is_b =
-    ap given.Lease (same_lease most runs differ parts a b is_a is_b)
+same_reply most runs follow differ None given.Nothing given.Nothing is_a is_b = refl
+same_reply most runs follow differ None given.Nothing (given.Lease b) is_a is_b = absurd is_b
+same_reply most runs follow differ None (given.Lease a) given.Nothing is_a is_b = absurd is_a
+same_reply most runs follow differ None (given.Lease a) (given.Lease b) is_a is_b = absurd is_a
+same_reply most runs follow differ (Some parts) given.Nothing given.Nothing is_a is_b = refl
+same_reply most runs follow differ (Some parts) given.Nothing (given.Lease b) is_a is_b = absurd is_a
+same_reply most runs follow differ (Some parts) (given.Lease a) given.Nothing is_a is_b = absurd is_b
+same_reply most runs follow differ (Some parts) (given.Lease a) (given.Lease b) is_a is_b =
+    ap given.Lease (same_lease most runs follow differ parts a b is_a is_b)
 
-same_last : (most : ℕ) (runs : List RunState) → LeasesDiffer runs → (parts : LastParts) (a b : LastCommand) → IsLastAs most runs parts a
-    → IsLastAs most runs parts b → a ≡ b
-same_last most runs differ (stored.Claim claim parts) (last.Claim c r) (last.Claim d s) is_a is_b =
-    ap₂ last.Claim (is_a.0 ∙ sym is_b.0) (same_reply most runs differ parts r s is_a.1 is_b.1)
-same_last most runs differ (stored.Claim claim parts) (last.Claim c r) (last.Done d) is_a is_b = absurd is_b
-same_last most runs differ (stored.Claim claim parts) (last.Done c) b is_a is_b = absurd is_a
-same_last most runs differ (stored.Done report) (last.Claim c r) b is_a is_b = absurd is_a
-same_last most runs differ (stored.Done report) (last.Done c) (last.Claim d s) is_a is_b = absurd is_b
-same_last most runs differ (stored.Done report) (last.Done c) (last.Done d) is_a is_b = ap last.Done (is_a ∙ sym is_b)
+same_last : (most : ℕ) (runs : List RunState) → IdsFollow runs → LeasesDiffer runs → (parts : LastParts) (a b : LastCommand)
+    → IsLastAs most runs parts a → IsLastAs most runs parts b → a ≡ b
+same_last most runs follow differ (stored.Claim claim parts) (last.Claim c r) (last.Claim d s) is_a is_b =
+    ap₂ last.Claim (is_a.0 ∙ sym is_b.0) (same_reply most runs follow differ parts r s is_a.1 is_b.1)
+same_last most runs follow differ (stored.Claim claim parts) (last.Claim c r) (last.Done d) is_a is_b = absurd is_b
+same_last most runs follow differ (stored.Claim claim parts) (last.Done c) b is_a is_b = absurd is_a
+same_last most runs follow differ (stored.Done report) (last.Claim c r) b is_a is_b = absurd is_a
+same_last most runs follow differ (stored.Done report) (last.Done c) (last.Claim d s) is_a is_b = absurd is_b
+same_last most runs follow differ (stored.Done report) (last.Done c) (last.Done d) is_a is_b = ap last.Done (is_a ∙ sym is_b)
 
-same_runner : (most : ℕ) (runs : List RunState) → LeasesDiffer runs → (part : RunnerParts) (x y : RunnerState)
+same_runner : (most : ℕ) (runs : List RunState) → IdsFollow runs → LeasesDiffer runs → (part : RunnerParts) (x y : RunnerState)
     → IsRunnerAs most runs part x → IsRunnerAs most runs part y → x ≡ y
-same_runner most runs differ part x y is_x is_y =
+same_runner most runs follow differ part x y is_x is_y =
     let name : x.name ≡ y.name = is_x.name ∙ sym is_y.name in
     let number : x.number ≡ y.number = is_x.number ∙ sym is_y.number in
     let holds : x.holds ≡ y.holds = is_x.holds ∙ sym is_y.holds in
-    let the_last : x.last ≡ y.last = same_last most runs differ part.last x.last y.last is_x.last is_y.last in
+    let the_last : x.last ≡ y.last = same_last most runs follow differ part.last x.last y.last is_x.last is_y.last in
     λ i. record { name = name i; number = number i; last = the_last i; holds = holds i }
 
 -- those after the first
@@ -124,16 +141,16 @@ others most runs part parts x xs are = record {
   each = (λ k p y at_p at_y. are.each (suc k) p y at_p at_y);
 }
 
-pub same_runners : (most : ℕ) (runs : List RunState) → LeasesDiffer runs → (parts : List RunnerParts) (xs ys : List RunnerState)
+pub same_runners : (most : ℕ) (runs : List RunState) → IdsFollow runs → LeasesDiffer runs → (parts : List RunnerParts) (xs ys : List RunnerState)
     → AreRunnersAs most runs parts xs → AreRunnersAs most runs parts ys → xs ≡ ys
-same_runners most runs differ [] [] [] are_x are_y = refl
-same_runners most runs differ [] [] (y ∷ ys) are_x are_y = absurd (omega (arith, are_y.as_many))
-same_runners most runs differ [] (x ∷ xs) ys are_x are_y = absurd (omega (arith, are_x.as_many))
-same_runners most runs differ (part ∷ parts) [] ys are_x are_y = absurd (omega (arith, are_x.as_many))
-same_runners most runs differ (part ∷ parts) (x ∷ xs) [] are_x are_y = absurd (omega (arith, are_y.as_many))
-same_runners most runs differ (part ∷ parts) (x ∷ xs) (y ∷ ys) are_x are_y =
-    ap₂ (λ z zs. z ∷ zs) (same_runner most runs differ part x y (are_x.each 0 part x refl refl) (are_y.each 0 part y refl refl))
-    (same_runners most runs differ parts xs ys (others most runs part parts x xs are_x) (others most runs part parts y ys are_y))
+same_runners most runs follow differ [] [] [] are_x are_y = refl
+same_runners most runs follow differ [] [] (y ∷ ys) are_x are_y = absurd (omega (arith, are_y.as_many))
+same_runners most runs follow differ [] (x ∷ xs) ys are_x are_y = absurd (omega (arith, are_x.as_many))
+same_runners most runs follow differ (part ∷ parts) [] ys are_x are_y = absurd (omega (arith, are_x.as_many))
+same_runners most runs follow differ (part ∷ parts) (x ∷ xs) [] are_x are_y = absurd (omega (arith, are_y.as_many))
+same_runners most runs follow differ (part ∷ parts) (x ∷ xs) (y ∷ ys) are_x are_y =
+    ap₂ (λ z zs. z ∷ zs) (same_runner most runs follow differ part x y (are_x.each 0 part x refl refl) (are_y.each 0 part y refl refl))
+    (same_runners most runs follow differ parts xs ys (others most runs part parts x xs are_x) (others most runs part parts y ys are_y))
 
 -- ---- names
 
@@ -189,26 +206,33 @@ as_planned t s = record {
 -- ---- the table of the parts
 
 module _ (parts : TableParts) where
-  -- there is none if the runs are not as planned, or two wait or are in progress in a group
-  pub none_planned : (AreAsPlanned parts.runs → HasOneEach parts.runs → ⊥) → IsNoTable parts
-  none_planned not_planned t is =
-      not_planned (subst AreAsPlanned is.runs (as_planned t is.is_sound)) (subst HasOneEach is.runs is.is_sound.one_of_each_group)
+  -- the runs of a table of the parts
+  runs_of : (t : TableState) → IsStoredAs parts t → AreRunsOf parts.runs t.runs
+  runs_of t is = record { as_stored = is.runs; ids = is.is_sound.ids_follow; numbers = is.is_sound.numbers_follow }
 
-  module _ (last : ℕ) (runs : List RunState) (last_is : last ≡ parts.last_lease) (runs_are : runs ≡ parts.runs) where
+  -- there is none if the runs are not as planned, or two wait or are in progress in a group
+  pub none_planned : ((runs : List RunState) → AreRunsOf parts.runs runs → AreAsPlanned runs → HasOneEach runs → ⊥) → IsNoTable parts
+  none_planned not_planned t is = not_planned t.runs (runs_of t is) (as_planned t is.is_sound) is.is_sound.one_of_each_group
+
+  module _ (last : ℕ) (runs : List RunState) (last_is : last ≡ parts.last_lease) (runs_are : AreRunsOf parts.runs runs) where
+    -- they are the given runs
+    the_runs : (t : TableState) → IsStoredAs parts t → t.runs ≡ runs
+    the_runs t is = same_runs parts.runs t.runs runs (runs_of t is) runs_are
+
     -- the runners of a table of the parts are those of its last lease and its runs
     runners_are : (t : TableState) → IsStoredAs parts t → AreRunnersAs last runs parts.runners t.runners
     runners_are t is =
         subst (λ (n : ℕ). AreRunnersAs n runs parts.runners t.runners) (is.last_lease ∙ sym last_is)
-        (subst (λ (xs : List RunState). AreRunnersAs t.last_lease xs parts.runners t.runners) (is.runs ∙ sym runs_are) is.runners)
+        (subst (λ (xs : List RunState). AreRunnersAs t.last_lease xs parts.runners t.runners) (the_runs t is) is.runners)
 
     -- the only table that there may be
     the_one : (runners : List RunnerState) → AreRunnersAs last runs parts.runners runners → (t : TableState) → IsStoredAs parts t
         → t ≡ record { last_lease = last; runs = runs; runners = runners }
     the_one runners are t is =
         let lease : t.last_lease ≡ last = is.last_lease ∙ sym last_is in
-        let all : t.runs ≡ runs = is.runs ∙ sym runs_are in
+        let all : t.runs ≡ runs = the_runs t is in
         let differ : LeasesDiffer runs = subst LeasesDiffer all is.is_sound.leases_differ in
-        let each : t.runners ≡ runners = same_runners last runs differ parts.runners t.runners runners (runners_are t is) are in
+        let each : t.runners ≡ runners = same_runners last runs runs_are.ids differ parts.runners t.runners runners (runners_are t is) are in
         λ i. record { last_lease = lease i; runs = all i; runners = each i }
 
     pub none_sound : (runners : List RunnerState) → AreRunnersAs last runs parts.runners runners
@@ -224,14 +248,14 @@ module _ (parts : TableParts) where
 
 pub stored_as : (parts : TableParts) (last : ℕ) (runs next : List RunState) (runners seen : List RunnerState) (t : TableState)
     → t ≡ record { last_lease = last; runs = next; runners = runners } → next ≡ runs → seen ≡ runners
-    → IsSound (record { last_lease = last; runs = runs; runners = seen }) → last ≡ parts.last_lease → runs ≡ parts.runs
-    → AreRunnersAs last runs parts.runners runners → IsStoredAs parts t
-stored_as parts last runs next runners seen t is same_runs same_runners sound of_last of_runs its =
+    → IsSound (record { last_lease = last; runs = runs; runners = seen }) → last ≡ parts.last_lease
+    → AreRunsOf parts.runs runs → AreRunnersAs last runs parts.runners runners → IsStoredAs parts t
+stored_as parts last runs next runners seen t is all same_runners sound of_last runs_are its =
     let made : TableState = record { last_lease = last; runs = runs; runners = runners } in
     let here : IsStoredAs parts made = record {
       is_sound = subst (λ (rs : List RunnerState). IsSound (record { last_lease = last; runs = runs; runners = rs })) same_runners sound;
       last_lease = of_last;
-      runs = of_runs;
+      runs = runs_are.as_stored;
       runners = its;
     } in
-    subst (IsStoredAs parts) (sym (is ∙ ap (λ (rs : List RunState). record { last_lease = last; runs = rs; runners = runners }) same_runs)) here
+    subst (IsStoredAs parts) (sym (is ∙ ap (λ (rs : List RunState). record { last_lease = last; runs = rs; runners = runners }) all)) here

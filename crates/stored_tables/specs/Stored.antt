@@ -1,11 +1,13 @@
--- What is stored of a table. Of a lease that is kept as a reply, it is the number and the site with the attempt. The
--- rest, the job's id and the combination, follows from the runs.
+-- What is stored of a table. Of a run, it is all but its id and its number, which follow from its place. Of a lease that is
+-- kept as a reply, it is the number and the site with the attempt. The rest, the job's id and the combination, follows from
+-- the runs.
 use Rattle.std.specs.Prelude.{ℕ, ◌-◌, List, map, Option, Some, None}
 use Rattle.run_plan.specs.declared.last_command.ClaimReply.TheVariants as given
 use Rattle.run_plan.specs.declared.last_command.KeptLease.{KeptLease}
 use Rattle.run_plan.specs.declared.last_command.LastCommand.{LastCommand}
 use Rattle.run_plan.specs.declared.last_command.LastCommand.TheVariants as last
-use Rattle.table_model.specs.Runs.{leg_site, RunState}
+use Rattle.table_model.specs.Parts.{RunParts, stored_run}
+use Rattle.table_model.specs.Runs.{leg_site}
 use Rattle.table_model.specs.declared.sites.LegSite.{LegSite}
 pub use Rattle.table_model.specs.Runs.{is_new}
 use Rattle.table_model.specs.TableState.{RunnerState, TableState}
@@ -23,7 +25,7 @@ pub record RunnerParts : Type 0 where
 
 pub record TableParts : Type 0 where
   pub last_lease : ℕ
-  pub runs : List RunState
+  pub runs : List RunParts
   pub runners : List RunnerParts
 
 -- ---- from a table
@@ -47,4 +49,4 @@ abbrev pub stored_runner : RunnerState → RunnerParts
 stored_runner r = record { name = r.name; number = r.number; last = stored_last r.last; holds = r.holds }
 
 abbrev pub stored_table : TableState → TableParts
-stored_table t = record { last_lease = t.last_lease; runs = t.runs; runners = map stored_runner t.runners }
+stored_table t = record { last_lease = t.last_lease; runs = map stored_run t.runs; runners = map stored_runner t.runners }

@@ -1,11 +1,12 @@
 -- The table of stored parts: the sound table that is stored as these parts, if there is one.
-use Rattle.std.specs.Prelude.{◌≡◌, ℕ, ◌-◌, List, length, Option, Some, None, slice_get}
+use Rattle.std.specs.Prelude.{◌≡◌, ℕ, ◌-◌, List, length, map, Option, Some, None, slice_get}
 use Rattle.std.specs.Option.{option_map_or}
 use Rattle.run_plan.specs.declared.last_command.ClaimReply.{ClaimReply}
 use Rattle.run_plan.specs.declared.last_command.ClaimReply.TheVariants as given
 use Rattle.run_plan.specs.declared.last_command.KeptLease.{KeptLease}
 use Rattle.run_plan.specs.declared.last_command.LastCommand.{LastCommand}
 use Rattle.run_plan.specs.declared.last_command.LastCommand.TheVariants as last
+use Rattle.table_model.specs.Parts.{stored_run}
 use Rattle.table_model.specs.Runs.{run_at, RunState}
 use Rattle.table_model.specs.Sound.{IsOfALeg, IsSound}
 use Rattle.stored_tables.specs.Stored.{RunnerParts, TableParts, stored_site}
@@ -59,7 +60,7 @@ pub record AreRunnersAs (most : ℕ) (runs : List RunState) (parts : List Runner
 pub record IsStoredAs (parts : TableParts) (t : TableState) : Type 0 where
   pub is_sound : IsSound t
   pub last_lease : t.last_lease ≡ parts.last_lease
-  pub runs : t.runs ≡ parts.runs
+  pub runs : map stored_run t.runs ≡ parts.runs
   pub runners : AreRunnersAs t.last_lease t.runs parts.runners t.runners
 
 -- no table is stored so

@@ -3,12 +3,11 @@
 ghost use Rattle.std.specs.BTreeMap.{get};
 ghost use Rattle.std.specs.Bool.{Decides};
 ghost use Rattle.std.specs.Ordering.{nat_cmp};
-ghost use Rattle.std.specs.Prelude.{◌≡◌, ◌≤◌, IfOk, MatchOption, None, Some, length, nat_lt, option_map};
-ghost use Rattle.definitions.specs.Limits.{max_runs};
+ghost use Rattle.std.specs.Prelude.{◌≡◌, ◌≤◌, IfOk, MatchOption, None, Some, nat_lt, option_map};
 ghost use Rattle.wf_value.specs.Gives.{ErrsOnlyByMemory};
 ghost use Rattle.run_plan.specs.declared.last_command.KeptLease.{KeptLease as Kept};
 ghost use Rattle.stored_tables.specs.inner.ByLease.{FindsLegs};
-ghost use Rattle.table_model.specs.Sound.{IsOfALeg};
+ghost use Rattle.table_model.specs.Sound.{IdsFollow, IsOfALeg};
 ghost use Rattle.table_model.specs.Step.{kept_lease};
 ghost use Rattle.stored_tables.specs.Stored.{site_in_runs};
 ghost use Rattle.stored_tables.specs.TableOf.{IsLeaseAs};
@@ -40,6 +39,7 @@ impl<'a> Leased<'a> {
     pub(crate) fn lease(&self, parts: &StoredLease) -> Result<Option<KeptLease>, Refusal>
         requires legs { FindsLegs self.now.runs.now (get nat_cmp self.now.legs.now) }
         requires planned { AreAsPlanned self.now.runs.now }
+        requires ids { IdsFollow self.now.runs.now }
         ensures err { ErrsOnlyByMemory result }
         ensures of { IfOk result (λ found. MatchOption found
             ((kept : Kept) → IsLeaseAs self.now.last self.now.runs.now parts.now kept → ⊥)
@@ -60,6 +60,7 @@ impl<'a> Leased<'a> {
         requires last { lease ≤ self.now.last }
         requires legs { FindsLegs self.now.runs.now (get nat_cmp self.now.legs.now) }
         requires planned { AreAsPlanned self.now.runs.now }
+        requires ids { IdsFollow self.now.runs.now }
         ensures err { ErrsOnlyByMemory result }
         ensures of { IfOk result (λ found. MatchOption found
             ((kept : Kept) → IsLeaseAs self.now.last self.now.runs.now (record { lease = lease; place = None }) kept → ⊥)
@@ -78,7 +79,7 @@ impl<'a> Leased<'a> {
     /// The lease, at the site where it was granted, or `None` if there is no such leg.
     fn given_at(&self, lease: Number, stored: &StoredSite) -> Result<Option<KeptLease>, Refusal>
         requires last { lease ≤ self.now.last }
-        requires few { length self.now.runs.now ≤ max_runs }
+        requires ids { IdsFollow self.now.runs.now }
         ensures err { ErrsOnlyByMemory result }
         ensures of { IfOk result (λ found. MatchOption found
             ((kept : Kept) → IsLeaseAs self.now.last self.now.runs.now (record { lease = lease; place = Some stored.now }) kept → ⊥)
@@ -95,7 +96,8 @@ impl<'a> Leased<'a> {
 
     /// Whether the plan has the leg at the site, and the leg may have been granted the lease in this attempt.
     fn is_of_a_leg(&self, lease: Number, attempt: Number, site: LegSite) -> bool
-        requires { lease ≤ self.now.last }
+        requires last { lease ≤ self.now.last }
+        requires ids { IdsFollow self.now.runs.now }
         ensures { Decides result (IsOfALeg self.now.last self.now.runs.now (kept_lease self.now.runs.now attempt site lease)) }
     {
         let Some(present) = attempt_of(self.runs, site) else {

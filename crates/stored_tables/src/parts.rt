@@ -1,5 +1,5 @@
-//! A table in parts, as it is stored. The parts leave out what follows from the rest: a run's number, a leg's labels,
-//! and the combination of a kept lease.
+//! A table in parts, as it is stored. The parts leave out what follows from the rest: a run's id and its number, a leg's
+//! labels, and the combination of a kept lease.
 
 ghost use Rattle.std.specs.Cmp.Lexicographic.{slice_cmp};
 ghost use Rattle.std.specs.Ordering.{is_lt, nat_cmp};

@@ -10,6 +10,7 @@ ghost use Rattle.table_model.specs.TableState.{RunnerState, names_rise};
 ghost use Rattle.run_plan.specs.declared.last_command.ClaimReply.{ClaimReply as Reply};
 ghost use Rattle.run_plan.specs.declared.last_command.LastCommand.{LastCommand as Last};
 ghost use Rattle.table_model.specs.AsPlanned.{AreAsPlanned};
+ghost use Rattle.table_model.specs.Sound.{IdsFollow};
 
 use crate::leased::Leased;
 use crate::parts::{LastParts, RunnerParts, StoredLease, do_names_rise};
@@ -31,6 +32,7 @@ pub(crate) fn runners_of(
 ) -> Result<Option<Vec<Runner>>, Refusal>
     requires legs { FindsLegs runs.now (get nat_cmp legs.now) }
     requires planned { AreAsPlanned runs.now }
+    requires ids { IdsFollow runs.now }
     ensures err { ErrsOnlyByMemory result }
     ensures of { IfOk result (λ found. MatchOption found
         ((runners : List RunnerState) → AreRunnersAs last runs.now parts.now runners → names_rise runners ≡ true → ⊥)
@@ -53,6 +55,7 @@ impl<'a> Leased<'a> {
     fn reply(&self, given: Option<StoredLease>) -> Result<Option<ClaimReply>, Refusal>
         requires legs { FindsLegs self.now.runs.now (get nat_cmp self.now.legs.now) }
         requires planned { AreAsPlanned self.now.runs.now }
+        requires ids { IdsFollow self.now.runs.now }
         ensures err { ErrsOnlyByMemory result }
         ensures of { IfOk result (λ found. MatchOption found
             ((reply : Reply) → IsReplyAs self.now.last self.now.runs.now given reply → ⊥)
@@ -70,6 +73,7 @@ impl<'a> Leased<'a> {
     fn last(&self, parts: &LastParts) -> Result<Option<LastCommand>, Refusal>
         requires legs { FindsLegs self.now.runs.now (get nat_cmp self.now.legs.now) }
         requires planned { AreAsPlanned self.now.runs.now }
+        requires ids { IdsFollow self.now.runs.now }
         ensures err { ErrsOnlyByMemory result }
         ensures of { IfOk result (λ found. MatchOption found
             ((last : Last) → IsLastAs self.now.last self.now.runs.now parts.now last → ⊥)
@@ -89,6 +93,7 @@ impl<'a> Leased<'a> {
     fn runner(&self, parts: &RunnerParts) -> Result<Option<Runner>, Refusal>
         requires legs { FindsLegs self.now.runs.now (get nat_cmp self.now.legs.now) }
         requires planned { AreAsPlanned self.now.runs.now }
+        requires ids { IdsFollow self.now.runs.now }
         ensures err { ErrsOnlyByMemory result }
         ensures of { IfOk result (λ found. MatchOption found
             ((runner : RunnerState) → IsRunnerAs self.now.last self.now.runs.now parts.now runner → ⊥)
@@ -108,6 +113,7 @@ impl<'a> Leased<'a> {
     fn runners(&self, parts: &[RunnerParts]) -> Result<Option<Vec<Runner>>, Refusal>
         requires legs { FindsLegs self.now.runs.now (get nat_cmp self.now.legs.now) }
         requires planned { AreAsPlanned self.now.runs.now }
+        requires ids { IdsFollow self.now.runs.now }
         ensures err { ErrsOnlyByMemory result }
         ensures of { IfOk result (λ found. MatchOption found
             ((runners : List RunnerState) → AreRunnersAs self.now.last self.now.runs.now parts.now runners → ⊥)

@@ -6,7 +6,7 @@ ghost use Rattle.std.specs.Ordering.{nat_cmp};
 ghost use Rattle.std.specs.Prelude.{◌≡◌, ℕ, true};
 ghost use Rattle.stored_tables.specs.inner.ByLease.{lease_of_leg, lease_of_runner};
 ghost use Rattle.stored_tables.specs.inner.ByNumber.{Finds};
-ghost use Rattle.table_model.specs.Sound.{IsSound, KeptLeasesAreOfLegs};
+ghost use Rattle.table_model.specs.Sound.{IdsFollow, IsSound, KeptLeasesAreOfLegs, NumbersFollow};
 ghost use Rattle.table_model.specs.AsPlanned.{AreAsPlanned};
 ghost use Rattle.table_model.specs.Groups.{HasOneEach};
 ghost use Rattle.table_model.specs.TableState.{names_rise};
@@ -27,13 +27,15 @@ use run_plan::LAST_NUMBER;
 use run_table::Runner;
 use table_runs::runs::Runs;
 
-/// Whether the table of these runs and runners is sound. The runs must be as planned, the runners' names must strictly
-/// increase, and each kept lease must be that of a leg. No
-/// group has two pending holders, or two in progress.
+/// Whether the table of these runs and runners is sound. The runs must be as planned, their ids and numbers must follow
+/// from their places, the runners' names must strictly increase, and each kept lease must be that of a leg. No group has
+/// two pending holders, or two in progress.
 pub(crate) fn is_sound(leases: &Leases, runs: &mut Runs, runners: &[Runner]) -> bool
     requires legs { (n : ℕ) → Finds (lease_of_leg runs.old) n (get nat_cmp leases.now.legs n) }
     requires held { (n : ℕ) → Finds (lease_of_runner runners.now) n (get nat_cmp leases.now.held n) }
     requires planned { AreAsPlanned runs.old }
+    requires ids { IdsFollow runs.old }
+    requires numbers { NumbersFollow runs.old }
     requires groups { HasOneEach runs.old }
     requires rise { names_rise runners.now ≡ true }
     requires kept { KeptLeasesAreOfLegs leases.now.last runs.old runners.now }

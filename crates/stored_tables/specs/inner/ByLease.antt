@@ -1,6 +1,5 @@
 -- The leases of legs, by site, and the leases that runners hold.
-use Rattle.std.specs.Prelude.{ℕ, ◌≤◌, List, Option, length, option_and_then, slice_get}
-use Rattle.definitions.specs.Limits.{max_runs}
+use Rattle.std.specs.Prelude.{ℕ, List, Option, option_and_then, slice_get}
 use Rattle.stored_tables.specs.inner.ByNumber.{Finds}
 use Rattle.table_model.specs.Runs.{run_at, LegState, JobState, RunState}
 use Rattle.table_model.specs.declared.sites.LegSite.{LegSite}
@@ -16,10 +15,9 @@ lease_in_run jobs j l = option_and_then (λ job. lease_in_job job.legs l) (slice
 abbrev pub lease_of_leg : List RunState → LegSite → Option ℕ
 lease_of_leg runs p = option_and_then (λ run. lease_in_run run.jobs p.job p.leg) (run_at runs p.run)
 
--- leg_of finds the legs by their leases, and there are at most as many runs as a table may have
-pub record FindsLegs (runs : List RunState) (leg_of : ℕ → Option LegSite) : Type 0 where
-  pub legs : (n : ℕ) → Finds (lease_of_leg runs) n (leg_of n)
-  pub few : length runs ≤ max_runs
+-- leg_of finds the legs by their leases
+abbrev pub FindsLegs : List RunState → (ℕ → Option LegSite) → Type 0
+FindsLegs runs leg_of = (n : ℕ) → Finds (lease_of_leg runs) n (leg_of n)
 
 -- the lease that the runner at an index holds, if any
 abbrev pub lease_of_runner : List RunnerState → ℕ → Option ℕ

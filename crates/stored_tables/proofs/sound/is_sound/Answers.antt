@@ -37,7 +37,6 @@ returns-clause-sound c =
     let each_of_runners = c.are_runners_sound.ensures.0 (search rules) in
     let differ = c.do_deliveries_differ.ensures.0 (search rules) in
     Decides-like c.are_at_rest.result
-    (λ rests. to_sound leases runs runners c.requires.legs c.requires.held legs each each_of_runners c.requires.planned c.requires.rise
-    c.requires.kept
-    last c.requires.groups rests differ)
+    (λ rests. to_sound leases runs runners c.requires.legs c.requires.held legs each each_of_runners c.requires.planned c.requires.ids
+    c.requires.numbers c.requires.rise c.requires.kept last c.requires.groups rests differ)
     (λ s. s.no_rule_applies) c.are_at_rest.ensures.rest

@@ -20,18 +20,18 @@ decided c =
 
 pub returns-then-not-is_of_a_leg-clause-of : goal.returns-then-not-is_of_a_leg-clause-of
 returns-then-not-is_of_a_leg-clause-of c =
-    no_given c.args.self.now.last c.args.lease c.args.self.now.runs.now c.args.stored.now
+    no_given c.args.self.now.last c.args.lease c.args.self.now.runs.now c.requires.ids c.args.stored.now
     (not_so c.is_of_a_leg.result (decided (goal.at.returns-then-not-is_of_a_leg-clause-of c).After-is_of_a_leg) (search rules))
 
 pub kept_lease-requires : goal.kept_lease-requires
 kept_lease-requires c =
-    run_within c.args.self.now.last c.args.self.now.runs.now c.args.stored.now.attempt c.site_in_runs-site.result c.args.lease
-    c.requires.few (c.is_of_a_leg.ensures.0 (search rules))
+    run_within c.args.self.now.last c.args.self.now.runs.now c.requires.ids c.args.stored.now.attempt c.site_in_runs-site.result
+    c.args.lease (c.is_of_a_leg.ensures.0 (search rules))
 
 pub returns-clause-of : goal.returns-clause-of
 returns-clause-of c =
     let runs = c.args.self.now.runs.now in
     let stored = c.args.stored.now in
-    given_lease c.args.self.now.last c.args.lease runs stored c.in_ok-kept.kept c.site_in_runs-site.ensures.run
+    given_lease c.args.self.now.last c.args.lease runs c.requires.ids stored c.in_ok-kept.kept c.site_in_runs-site.ensures.run
     ((decided (goal.at.returns-clause-of c).After-is_of_a_leg).0 (search rules))
     (ap (λ p. kept_lease runs stored.attempt p c.args.lease) (sym c.site_in_runs-site.ensures.place) ∙ same_Ok _ _ c.in_ok-kept.ensures)

@@ -15,23 +15,23 @@ has_lease c =
     let found : find c.args.lease ≡ Some c.in-Some.site.now =
     ap find (sym c.get.ensures.value) ∙ sym c.in-Some.ensures.value in
     found_has (lease_of_leg c.args.self.now.runs.now) c.args.lease (find c.args.lease) c.in-Some.site.now
-    (c.requires.legs.legs c.args.lease) found
+    (c.requires.legs c.args.lease) found
 
 pub returns-in_default-clause-of : goal.returns-in_default-clause-of
 returns-in_default-clause-of c =
     let find = get nat_cmp c.args.self.now.legs.now in
     let nothing : find c.args.lease ≡ None = search rules in
-    no_present c.args.self.now.last c.args.lease c.args.self.now.runs.now (find c.args.lease) (c.requires.legs.legs c.args.lease) nothing
+    no_present c.args.self.now.last c.args.lease c.args.self.now.runs.now c.requires.ids (find c.args.lease) (c.requires.legs c.args.lease) nothing
 
 pub kept_lease-requires : goal.kept_lease-requires
 kept_lease-requires c =
-    run_in_range c.args.self.now.runs.now c.in-Some.site.now c.args.lease c.requires.legs.few
+    run_in_range c.args.self.now.runs.now c.in-Some.site.now c.args.lease
     (has_lease (goal.at.kept_lease-requires c).In-Some)
 
 pub returns-clause-of : goal.returns-clause-of
 returns-clause-of c =
     present_lease c.args.self.now.last c.args.lease c.in-Some-attempt_of.attempt c.args.self.now.runs.now c.in-Some.site.now c.in_ok-kept.kept
-    c.requires.planned (search rules) c.requires.last (search rules) (has_lease (goal.at.returns-clause-of c).In-Some) c.in-Some-attempt_of.ensures
+    c.requires.ids c.requires.planned (search rules) c.requires.last (search rules) (has_lease (goal.at.returns-clause-of c).In-Some) c.in-Some-attempt_of.ensures
     (same_Ok _ _ c.in_ok-kept.ensures)
 
 pub returns-in_default-attempt_of-clause-of : goal.returns-in_default-attempt_of-clause-of
