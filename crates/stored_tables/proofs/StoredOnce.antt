@@ -207,7 +207,7 @@ as_planned t s = record {
 
 module _ (parts : TableParts) where
   -- the runs of a table of the parts
-  runs_of : (t : TableState) → IsStoredAs parts t → AreRunsOf parts.runs t.runs
+  pub runs_of : (t : TableState) → IsStoredAs parts t → AreRunsOf parts.runs t.runs
   runs_of t is = record { as_stored = is.runs; ids = is.is_sound.ids_follow; numbers = is.is_sound.numbers_follow }
 
   -- there is none if the runs are not as planned, or two wait or are in progress in a group
@@ -243,6 +243,11 @@ module _ (parts : TableParts) where
     pub none_listed : ((runners : List RunnerState) → AreRunnersAs last runs parts.runners runners → names_rise runners ≡ true → ⊥)
         → IsNoTable parts
     none_listed none t is = none t.runners (runners_are t is) is.is_sound.runners_in_order
+
+-- so tables of the same parts are equal
+pub same_table : (parts : TableParts) (one two : TableState) → IsStoredAs parts one → IsStoredAs parts two → one ≡ two
+same_table parts one two first second =
+    sym (the_one parts one.last_lease one.runs first.last_lease (runs_of parts one first) one.runners first.runners two second)
 
 -- ---- the table that is made
 

@@ -7,7 +7,8 @@ use Rattle.definitions.specs.SmallText.{Admitted, is_runner_byte}
 use Rattle.stored_tables.specs.Stored.{RunnerParts, TableParts}
 use Rattle.stored_tables.specs.declared.parts.LastParts.{LastParts}
 use Rattle.stored_tables.specs.declared.parts.StoredLease.{StoredLease}
-use Rattle.table_model.specs.Runs.{JobState, RunState}
+use Rattle.table_model.specs.Parts.{RunParts}
+use Rattle.table_model.specs.Runs.{JobState}
 use Rattle.table_model.specs.declared.phases.RunPhase.{RunPhase}
 use Rattle.table_text.specs.declared.kept.StoredReply.{StoredReply}
 use Rattle.table_text.specs.declared.kept.StoredReply.TheVariants as replied
@@ -57,7 +58,7 @@ course_reads a =
 pub first_run_reads : Reads first_run first_run_at
 unfolding first_run_at
 first_run_reads =
-    parts_reads (λ (r : RunState). (r.admitted, (r.attempt, (r.phase, (r.stopping, r.jobs)))))
+    parts_reads (λ (r : RunParts). (r.admitted, (r.attempt, (r.phase, (r.stopping, r.jobs)))))
     (λ (p : Admitted × (ℕ × (RunPhase × (Bool × List JobState)))). record
     { admitted = p.0; attempt = p.1.0; phase = p.1.1.0; stopping = p.1.1.1.0; jobs = p.1.1.1.1 })
     (follow admit course) (follow_at admit_at first_course_at) (λ _. refl) (λ _. refl)
@@ -155,7 +156,7 @@ pub first_table_reads : Reads first_table first_table_at
 unfolding first_table_at
 first_table_reads =
     parts_reads (λ (t : TableParts). (t.last_lease, (t.runs, t.runners)))
-    (λ (p : ℕ × (List RunState × List RunnerParts)). record { last_lease = p.0; runs = p.1.0; runners = p.1.1 })
+    (λ (p : ℕ × (List RunParts × List RunnerParts)). record { last_lease = p.0; runs = p.1.0; runners = p.1.1 })
     (pair (only is_last_lease word) (pair (counted 0 100000 first_run) (only names_rise (counted 0 4294967295 first_runner))))
     (pair_at last_lease_at (pair_at first_runs_at first_runners_at)) (λ _. refl) (λ _. refl)
     (pair_reads (only is_last_lease word) (pair (counted 0 100000 first_run) (only names_rise (counted 0 4294967295 first_runner)))

@@ -4,7 +4,7 @@ use Rattle.wf_value.specs.declared.outcome.Outcome.TheVariants as outcome
 use Rattle.run_plan.specs.declared.command.Command.TheVariants as requested
 use Rattle.stored_tables.specs.Stored.{RunnerParts, TableParts}
 use Rattle.stored_tables.specs.declared.parts.LastParts.TheVariants as last
-use Rattle.table_model.specs.Runs.{RunState}
+use Rattle.table_model.specs.Parts.{RunParts}
 use Rattle.table_model.specs.declared.phases.JobPhase.TheVariants as job_phase
 use Rattle.table_model.specs.declared.phases.LegPhase.TheVariants as leg_phase
 use Rattle.table_model.specs.declared.phases.RunPhase.TheVariants as run_phase
@@ -18,7 +18,7 @@ unfolding word_bytes
 empty_bytes = refl
 
 -- a live run whose one job has one ready leg
-abbrev only_run : RunState
+abbrev only_run : RunParts
 only_run = record {
   admitted = record {
     delivery = codes "d1";

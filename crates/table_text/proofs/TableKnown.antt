@@ -20,6 +20,7 @@ use Rattle.run_plan.specs.declared.planned.PlannedJob.{PlannedJob}
 use Rattle.run_plan.specs.declared.reply.Lease.{Lease}
 use Rattle.run_plan.proofs.FewJobs.{few_jobs}
 use Rattle.run_plan.proofs.FewLegs.{few_planned}
+use Rattle.table_model.specs.Parts.{stored_run}
 use Rattle.table_model.specs.Runs.{job_at, plan_at, LegState, JobState, RunState}
 use Rattle.table_model.specs.Sound.{IsOfALeg, IsSound, KeptIsOfALeg}
 use Rattle.run_table.specs.Storable.{IsStorable}
@@ -61,7 +62,8 @@ leg_takes l old lease = ((leg_byte_fits l.phase, ap not old), lease)
 attempt_takes : (n : ℕ) → 1 ≤ n → n ≤ 1000 → (only is_attempt word).Takes n
 attempt_takes n low high = (omega (arith, high), ap (λ b. b && nat_le n 1000) (le-leb 1 n low) ∙ le-leb n 1000 high)
 
-pub run_takes : (r : RunState) → RunHasBytes r → admit.Takes r.admitted → AllByRecursion job.Takes r.jobs → run.Takes r
+pub run_takes : (r : RunState) → RunHasBytes r → admit.Takes r.admitted → AllByRecursion job.Takes r.jobs
+    → run.Takes (stored_run r)
 run_takes r has admitted all =
     (admitted, (attempt_takes r.attempt has.2.0 has.2.1, (run_byte_fits r.phase, (flag_byte_fits r.stopping, (has.0, all)))))
 
@@ -90,6 +92,10 @@ runs_have_bytes runs s =
 
 -- ---- the kept leases of a table have bytes
 
+-- the stored parts of each run are taken
+abbrev pub AreTaken : List RunState → Type 0
+AreTaken runs = AllByRecursion (λ (x : RunState). run.Takes (stored_run x)) runs
+
 no_fault : (fs : List Refusal) → are_none fs ≡ true → fs ≡ []
 no_fault [] h = refl
 no_fault (f ∷ fs) h = absurd (cc)
@@ -101,7 +107,7 @@ planned_place None l h = absurd (omega (arith, h))
 planned_place (Some planned) l h = (planned, refl, h)
 
 -- its job and its leg are in the plan of a body without faults
-of_a_leg_fits : (runs : List RunState) → AllByRecursion run.Takes runs → (most : ℕ) (kept : KeptLease) → IsOfALeg most runs kept
+of_a_leg_fits : (runs : List RunState) → AreTaken runs → (most : ℕ) (kept : KeptLease) → IsOfALeg most runs kept
     → (kept.job < 2 ^ 32) × (kept.lease_reply.leg < 2 ^ 32)
 unfolding is_faultless
 of_a_leg_fits runs takes most kept of =
@@ -110,7 +116,7 @@ of_a_leg_fits runs takes most kept of =
     ap (option_and_then (λ (x : RunState). slice_get (plan_of x.admitted.body) of.place.job)) of.run_is in
     let at = planned_place (plan_at runs of.place.run of.place.job) of.place.leg of.planned in
     let in_plan : slice_get (plan_of body) of.place.job ≡ Some at.0 = sym here ∙ at.1 in
-    let taken : run.Takes of.run = each_at run.Takes runs of.place.run of.run takes of.run_is in
+    let taken : run.Takes (stored_run of.run) = each_at (λ (x : RunState). run.Takes (stored_run x)) runs of.place.run of.run takes of.run_is in
     let faultless : faults_of body ≡ [] = no_fault (faults_of body) taken.0.1.1.1 in
     let few_jobs_there = few_jobs body faultless in
     let below = slice_get_within (plan_of body) of.place.job at.0 in_plan in
@@ -118,13 +124,13 @@ of_a_leg_fits runs takes most kept of =
     let leg : kept.lease_reply.leg ≡ of.place.leg = ap (λ (t : Lease). t.leg) of.tells in
     (omega (arith, of.job_is, below, few_jobs_there), omega (arith, leg, at.2, few_legs))
 
-kept_has_bytes : (runs : List RunState) → AllByRecursion run.Takes runs → (most : ℕ) (x : LastCommand) → KeptIsOfALeg most runs x
+kept_has_bytes : (runs : List RunState) → AreTaken runs → (most : ℕ) (x : LastCommand) → KeptIsOfALeg most runs x
     → KeptHasBytes x
 kept_has_bytes runs takes most (last.Claim claim given.Nothing) of = tt
 kept_has_bytes runs takes most (last.Claim claim (given.Lease kept)) of = of_a_leg_fits runs takes most kept of
 kept_has_bytes runs takes most (last.Done report) of = tt
 
-pub runners_have_bytes : (t : TableState) → IsSound t → AllByRecursion run.Takes t.runs
+pub runners_have_bytes : (t : TableState) → IsSound t → AreTaken t.runs
     → AllByRecursion (λ (r : RunnerState). KeptHasBytes r.last) t.runners
 runners_have_bytes t s takes =
     all_from_each (λ (r : RunnerState). KeptHasBytes r.last) t.runners (λ k x at.
@@ -159,34 +165,52 @@ five_parts old a b c d e l n rs m qs one two three four five =
     ∙ append_assoc (old ++ l) (n ++ rs) (m ++ qs)
     ∙ append_assoc old l ((n ++ rs) ++ (m ++ qs))
 
+-- the bytes of runs and of runners
+abbrev runs_written : List RunState → List ℕ
+runs_written runs = flat_map (λ (r : RunState). run.encoding (stored_run r)) runs
+
+abbrev runners_written : List RunnerState → List ℕ
+runners_written runners = flat_map (λ (r : RunnerState). runner.encoding (stored_runner r)) runners
+
+-- counted values that are seen through a view
+counted_seen : {X Y : Type 0} (f : Y → List ℕ) (g : X → Y) (xs : List X)
+    → word_bytes (length xs) ++ flat_map (λ x. f (g x)) xs ≡ word_bytes (length (map g xs)) ++ flat_map f (map g xs)
+counted_seen f g xs =
+    ap (λ n. word_bytes n ++ flat_map (λ x. f (g x)) xs) (sym (length-map xs g))
+    ∙ ap (λ (bytes : List ℕ). word_bytes (length (map g xs)) ++ bytes) (sym (flat_map-map f g xs))
+
 pub table_bytes : (t : TableState) (old a b c d e : List ℕ) (lease : ℕ) (runs : List RunState) (runners : List RunnerState)
     → a ≡ old ++ word_bytes lease
-    → b ≡ a ++ word_bytes (length runs) → c ≡ b ++ flat_map run.encoding runs → d ≡ c ++ word_bytes (length runners)
-    → e ≡ d ++ flat_map (λ (r : RunnerState). runner.encoding (stored_runner r)) runners → lease ≡ t.last_lease → runs ≡ t.runs
+    → b ≡ a ++ word_bytes (length runs) → c ≡ b ++ runs_written runs → d ≡ c ++ word_bytes (length runners)
+    → e ≡ d ++ runners_written runners → lease ≡ t.last_lease → runs ≡ t.runs
     → runners ≡ t.runners
     → e ≡ old ++ table.encoding (stored_table t)
 table_bytes t old a b c d e lease runs runners one two three four five same_lease same_runs same_runners =
-    five_parts old a b c d e (word_bytes lease) (word_bytes (length runs)) (flat_map run.encoding runs) (word_bytes (length runners))
-    (flat_map (λ (r : RunnerState). runner.encoding (stored_runner r)) runners) one two three four five
-    ∙ ap (λ n. old ++ (word_bytes n ++ ((word_bytes (length runs) ++ flat_map run.encoding runs)
-    ++ (word_bytes (length runners) ++ flat_map (λ (r : RunnerState). runner.encoding (stored_runner r)) runners)))) same_lease
-    ∙ ap (λ (rs : List RunState). old ++ (word_bytes t.last_lease ++ ((word_bytes (length rs) ++ flat_map run.encoding rs)
-    ++ (word_bytes (length runners) ++ flat_map (λ (r : RunnerState). runner.encoding (stored_runner r)) runners)))) same_runs
-    ∙ ap (λ (qs : List RunnerState). old ++ (word_bytes t.last_lease ++ ((word_bytes (length t.runs) ++ flat_map run.encoding t.runs)
-    ++ (word_bytes (length qs) ++ flat_map (λ (r : RunnerState). runner.encoding (stored_runner r)) qs)))) same_runners
-    ∙ ap (λ n. old ++ (word_bytes t.last_lease ++ ((word_bytes (length t.runs) ++ flat_map run.encoding t.runs)
-    ++ (word_bytes n ++ flat_map (λ (r : RunnerState). runner.encoding (stored_runner r)) t.runners))))
-    (sym (length-map t.runners stored_runner))
-    ∙ ap (λ (l : List ℕ). old ++ (word_bytes t.last_lease ++ ((word_bytes (length t.runs) ++ flat_map run.encoding t.runs)
-    ++ (word_bytes (length (map stored_runner t.runners)) ++ l)))) (sym (flat_map-map runner.encoding stored_runner t.runners))
+    five_parts old a b c d e (word_bytes lease) (word_bytes (length runs)) (runs_written runs) (word_bytes (length runners))
+    (runners_written runners) one two three four five
+    ∙ ap (λ n. old ++ (word_bytes n ++ ((word_bytes (length runs) ++ runs_written runs)
+    ++ (word_bytes (length runners) ++ runners_written runners)))) same_lease
+    ∙ ap (λ (rs : List RunState). old ++ (word_bytes t.last_lease ++ ((word_bytes (length rs) ++ runs_written rs)
+    ++ (word_bytes (length runners) ++ runners_written runners)))) same_runs
+    ∙ ap (λ (qs : List RunnerState). old ++ (word_bytes t.last_lease ++ ((word_bytes (length t.runs) ++ runs_written t.runs)
+    ++ (word_bytes (length qs) ++ runners_written qs)))) same_runners
+    ∙ ap (λ (bytes : List ℕ). old ++ (word_bytes t.last_lease ++ (bytes ++ (word_bytes (length t.runners) ++ runners_written t.runners))))
+    (counted_seen run.encoding stored_run t.runs)
+    ∙ ap (λ (bytes : List ℕ). old ++ (word_bytes t.last_lease
+    ++ ((word_bytes (length (map stored_run t.runs)) ++ flat_map run.encoding (map stored_run t.runs)) ++ bytes)))
+    (counted_seen runner.encoding stored_runner t.runners)
 
-pub table_takes : (t : TableState) → t.last_lease ≤ 999999999 → length t.runs ≤ 100000 → AllByRecursion run.Takes t.runs
+pub table_takes : (t : TableState) → t.last_lease ≤ 999999999 → length t.runs ≤ 100000 → AreTaken t.runs
     → length t.runners ≤ 4294967295
     → AllByRecursion (λ (r : RunnerState). runner.Takes (stored_runner r)) t.runners → names_rise t.runners ≡ true
     → table.Takes (stored_table t)
 table_takes t low few runs most runners rise =
     let same = length-map t.runners stored_runner in
+    let as_many = length-map t.runs stored_run in
     let rises = rises_over (λ r. r.name) stored_runner t.runners ∙ rise in (
       (omega (arith, low), le-leb t.last_lease 999999999 low),
-      ((omega arith, few, runs), ((omega arith, omega (arith, same, most), all_seen runner.Takes stored_runner t.runners runners), rises)),
+      (
+        (omega arith, omega (arith, as_many, few), all_seen run.Takes stored_run t.runs runs),
+        ((omega arith, omega (arith, same, most), all_seen runner.Takes stored_runner t.runners runners), rises),
+      ),
     )

@@ -11,6 +11,7 @@ use Rattle.run_plan.specs.declared.last_command.LastCommand.TheVariants as kept_
 use Rattle.run_table.specs.inner.RunnerSizes.{last_size, runner_size}
 use Rattle.table_model.specs.TableState.{RunnerState}
 use Rattle.stored_tables.specs.Stored.{RunnerParts, TableParts, stored_last, stored_runner}
+use Rattle.table_model.specs.Parts.{RunParts, stored_run}
 use Rattle.table_model.specs.Runs.{LegState, JobState, RunState}
 use Rattle.table_runs.specs.StoredSizes.{job_size, leg_counts, run_size}
 use Rattle.stored_tables.specs.declared.parts.LastParts.{LastParts}
@@ -20,7 +21,7 @@ use Rattle.stored_tables.specs.declared.parts.StoredSite.{StoredSite}
 use Rattle.command_encodings.specs.Commands.{admit, command_bytes}
 use Rattle.definitions.specs.Format.{present, text_bytes, word_bytes}
 use Rattle.command_encodings.specs.Lengths.{command_length, fields_length, length_of, text_length}
-use Rattle.table_text.specs.TableLengths.{last_length, lease_length, runner_length, table_length}
+use Rattle.table_text.specs.TableLengths.{last_length, lease_length, run_length, runner_length, table_length}
 use Rattle.table_text.specs.Tables.{flag_byte, job, kept, kept_lease, last_command, lease, leg, place, run, run_byte, runner, table}
 use Rattle.table_text.specs.declared.kept.StoredReply.TheVariants as replied
 use Rattle.command_encodings.proofs.LengthLaws.{after_one, length_admit, length_command, length_counted, length_text, length_two, length_word}
@@ -52,7 +53,7 @@ length_job j =
     let five = five_each j.legs in
     after_one (word_bytes (length j.legs) ++ flat_map leg.encoding j.legs) legs ∙ omega (arith, five)
 
-length_run : (r : RunState) → length_of run r ≡ run_size r
+length_run : (r : RunParts) → length_of run r ≡ run_length r
 length_run r =
     let sizes = sum_by job_size (leg_counts r.jobs) in
     let jobs : length (flat_map job.encoding r.jobs) ≡ sizes =
@@ -103,16 +104,19 @@ length_runner r =
 
 pub length_table : (t : TableParts) → length_of table t ≡ table_length t
 length_table t =
-    let runs = length_counted run.encoding run_size t.runs length_run in
+    let runs = length_counted run.encoding run_length t.runs length_run in
     let runners = length_counted runner.encoding runner_length t.runners length_runner in
-    length_two (word_bytes t.last_lease) _ 4 ((4 + sum_by run_size t.runs) + (4 + sum_by runner_length t.runners))
+    length_two (word_bytes t.last_lease) _ 4 ((4 + sum_by run_length t.runs) + (4 + sum_by runner_length t.runners))
     (length_word t.last_lease)
     (length_two (word_bytes (length t.runs) ++ flat_map run.encoding t.runs)
     (word_bytes (length t.runners) ++ flat_map runner.encoding t.runners)
-    (4 + sum_by run_size t.runs) (4 + sum_by runner_length t.runners) runs runners)
+    (4 + sum_by run_length t.runs) (4 + sum_by runner_length t.runners) runs runners)
     ∙ omega arith
 
--- ---- the runners of a table, whose sizes it keeps
+-- ---- the runs and the runners of a table, whose sizes it keeps
+
+pub run_sizes : (runs : List RunState) → sum_by run_size runs ≡ sum_by run_length (map stored_run runs)
+run_sizes runs = sym (sum_seen run_length stored_run runs)
 
 same_last : (l : LastCommand) → last_size l ≡ last_length (stored_last l)
 same_last (kept_last.Claim claim given.Nothing) = refl

@@ -11,7 +11,8 @@ use Rattle.run_plan.specs.declared.command.Done.{Done}
 use Rattle.run_plan.specs.declared.command.Command.{Command}
 use Rattle.run_plan.specs.declared.command.Command.TheVariants as requested
 use Rattle.stored_tables.specs.Stored.{RunnerParts, TableParts, is_new}
-use Rattle.table_model.specs.Runs.{LegState, JobState, RunState}
+use Rattle.table_model.specs.Parts.{RunParts}
+use Rattle.table_model.specs.Runs.{LegState, JobState}
 use Rattle.stored_tables.specs.declared.parts.LastParts.{LastParts}
 use Rattle.stored_tables.specs.declared.parts.LastParts.TheVariants as last
 use Rattle.stored_tables.specs.declared.parts.StoredLease.{StoredLease}
@@ -174,7 +175,7 @@ course_reads a =
 pub run_reads : Reads run run_at
 unfolding run_at
 run_reads =
-    parts_reads (λ (r : RunState). (r.admitted, (r.attempt, (r.phase, (r.stopping, r.jobs)))))
+    parts_reads (λ (r : RunParts). (r.admitted, (r.attempt, (r.phase, (r.stopping, r.jobs)))))
     (λ (p : Admitted × (ℕ × (RunPhase × (Bool × List JobState)))). record
     { admitted = p.0; attempt = p.1.0; phase = p.1.1.0; stopping = p.1.1.1.0; jobs = p.1.1.1.1 })
     (follow admit course) (follow_at admit_at course_at) (λ _. refl) (λ _. refl)
@@ -320,7 +321,7 @@ pub table_reads : Reads table table_at
 unfolding table_at
 table_reads =
     parts_reads (λ (t : TableParts). (t.last_lease, (t.runs, t.runners)))
-    (λ (p : ℕ × (List RunState × List RunnerParts)). record { last_lease = p.0; runs = p.1.0; runners = p.1.1 })
+    (λ (p : ℕ × (List RunParts × List RunnerParts)). record { last_lease = p.0; runs = p.1.0; runners = p.1.1 })
     (pair (only is_last_lease word) (pair (counted 0 100000 run) (only names_rise (counted 0 4294967295 runner))))
     (pair_at last_lease_at (pair_at runs_at runners_at)) (λ _. refl) (λ _. refl)
     (pair_reads (only is_last_lease word) (pair (counted 0 100000 run) (only names_rise (counted 0 4294967295 runner))) last_lease_at

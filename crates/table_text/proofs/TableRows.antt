@@ -3,7 +3,8 @@ use Rattle.std.specs.Prelude.{◌≡◌, ℕ, List, [], ◌∷◌, ◌++◌, cod
 use Rattle.wf_value.specs.declared.outcome.JobResult.TheVariants as result
 use Rattle.wf_value.specs.declared.outcome.Outcome.TheVariants as outcome
 use Rattle.stored_tables.specs.Stored.{RunnerParts, TableParts}
-use Rattle.table_model.specs.Runs.{LegState, JobState, RunState}
+use Rattle.table_model.specs.Parts.{RunParts}
+use Rattle.table_model.specs.Runs.{LegState, JobState}
 use Rattle.stored_tables.specs.declared.parts.LastParts.TheVariants as last
 use Rattle.stored_tables.specs.declared.parts.StoredLease.{StoredLease}
 use Rattle.table_model.specs.declared.phases.JobPhase.{JobPhase}
@@ -25,7 +26,7 @@ unfolding word_bytes
 empty_bytes = refl
 
 -- a live run whose one job has one ready leg
-abbrev first_run : RunState
+abbrev first_run : RunParts
 first_run = record {
   admitted = record {
     delivery = codes "d1";
@@ -53,7 +54,7 @@ unfolding text_bytes word_bytes
 admitted_bytes = refl
 
 -- its leg running under lease 1
-abbrev claimed_run : RunState
+abbrev claimed_run : RunParts
 claimed_run = record first_run {
   jobs = record { phase = job_phase.Open; legs = record { phase = leg_phase.Running; lease = Some 1 } ∷ [] } ∷ [];
 }
@@ -88,7 +89,7 @@ unfolding text_bytes word_bytes
 claimed_bytes = refl
 
 -- a stopping run of an arbitrary event, at the last attempt, with one finished and one open job
-abbrev stopping_run : RunState
+abbrev stopping_run : RunParts
 stopping_run = record {
   admitted = record { delivery = codes "d"; event = codes "e"; body = codes "b" };
   attempt = 1000;
@@ -132,7 +133,7 @@ bytes_of_all_leg_phases = refl
 abbrev job_in : JobPhase → JobState
 job_in phase = record { phase = phase; legs = [] }
 
-abbrev run_in : RunPhase → RunState
+abbrev run_in : RunPhase → RunParts
 run_in phase = record stopping_run {
   phase = phase;
   stopping = false;

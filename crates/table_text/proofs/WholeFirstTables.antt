@@ -11,9 +11,10 @@ use Rattle.run_plan.specs.declared.last_command.ClaimReply.TheVariants as given
 use Rattle.run_plan.specs.declared.last_command.KeptLease.{KeptLease}
 use Rattle.run_plan.specs.declared.last_command.LastCommand.{LastCommand}
 use Rattle.run_plan.specs.declared.last_command.LastCommand.TheVariants as last
+use Rattle.table_model.specs.Parts.{stored_run}
 use Rattle.table_model.specs.Runs.{run_at, RunState}
 use Rattle.table_model.proofs.Found.{each_at}
-use Rattle.table_model.specs.Sound.{IsOfALeg, IsSound, KeptIsOfALeg}
+use Rattle.table_model.specs.Sound.{IdsFollow, IsOfALeg, IsSound, KeptIsOfALeg}
 use Rattle.stored_tables.specs.Stored.{RunnerParts, TableParts}
 use Rattle.stored_tables.specs.TableOf.{AreRunnersAs, IsLastAs, IsNoTable, IsPlacedAs, IsRunnerAs, IsStoredAs}
 use Rattle.table_model.specs.TableState.{RunnerState, TableState}
@@ -21,7 +22,7 @@ use Rattle.stored_tables.specs.declared.parts.LastParts.{LastParts}
 use Rattle.stored_tables.specs.declared.parts.LastParts.TheVariants as stored
 use Rattle.stored_tables.specs.declared.parts.StoredLease.{StoredLease}
 use Rattle.stored_tables.specs.declared.parts.StoredSite.{StoredSite}
-use Rattle.stored_tables.proofs.StoredOnce.{run_told, same_runners}
+use Rattle.stored_tables.proofs.StoredOnce.{run_told, same_table}
 use Rattle.command_encodings.specs.Commands.{batch}
 use Rattle.table_text.specs.FirstLayout.{first_batch, first_last_command, first_run, first_runner, first_table, is_in_first_layout}
 use Rattle.definitions.specs.Format.{NoneBeginsAnother, OpensWith, ReadsPrefix}
@@ -35,23 +36,26 @@ use Rattle.command_encodings.proofs.Readers.{none_begins}
 -- ---- from a sound table whose runs are at their first attempt
 
 abbrev AreFirst : List RunState → Type 0
-AreFirst runs = AllByRecursion first_run.Takes runs
+AreFirst runs = AllByRecursion first_run.Takes (map stored_run runs)
 
 -- a kept lease is of its run's current attempt
-placed : (most : ℕ) (runs : List RunState) (kept : KeptLease) → AreFirst runs → IsOfALeg most runs kept → IsPlacedAs runs None kept
-placed most runs kept first of =
+placed : (most : ℕ) (runs : List RunState) → IdsFollow runs → (kept : KeptLease) → AreFirst runs → IsOfALeg most runs kept
+    → IsPlacedAs runs None kept
+placed most runs follow kept first of =
     let attempts : RunState → ℕ = λ (x : RunState). x.attempt in
-    let r : kept.lease_reply.run - 1 ≡ of.place.run = omega (arith, run_told most runs kept of) in
-    let one : of.run.attempt ≡ 1 = (each_at first_run.Takes runs of.place.run of.run first of.run_is).1.0 in
+    let r : kept.lease_reply.run - 1 ≡ of.place.run = omega (arith, run_told most runs follow kept of) in
+    let there : slice_get (map stored_run runs) of.place.run ≡ Some (stored_run of.run) =
+    slice_get-map stored_run runs of.place.run ∙ ap (option_map stored_run) of.run_is in
+    let one : of.run.attempt ≡ 1 = (each_at first_run.Takes (map stored_run runs) of.place.run (stored_run of.run) first there).1.0 in
     let present : kept.attempt ≡ of.run.attempt = omega (arith, one, of.attempt.0, of.attempt.1) in
     present ∙ sym (ap (λ k. option_map_or attempts (run_at runs k) 0) r ∙ ap (λ o. option_map_or attempts o 0) of.run_is)
 
-last_is : (most : ℕ) (runs : List RunState) (x : LastCommand) → AreFirst runs → KeptIsOfALeg most runs x
+last_is : (most : ℕ) (runs : List RunState) → IdsFollow runs → (x : LastCommand) → AreFirst runs → KeptIsOfALeg most runs x
     → IsLastAs most runs (first_stored_last x) x
-last_is most runs (last.Claim claim given.Nothing) first of = (refl, tt)
-last_is most runs (last.Claim claim (given.Lease kept)) first of =
-    (refl, record { lease = refl; place = placed most runs kept first of; is_of_a_leg = of })
-last_is most runs (last.Done report) first of = refl
+last_is most runs follow (last.Claim claim given.Nothing) first of = (refl, tt)
+last_is most runs follow (last.Claim claim (given.Lease kept)) first of =
+    (refl, record { lease = refl; place = placed most runs follow kept first of; is_of_a_leg = of })
+last_is most runs follow (last.Done report) first of = refl
 
 first_is_stored : (t : TableState) → IsSound t → AreFirst t.runs → IsStoredAs (first_stored_table t) t
 first_is_stored t s first = record {
@@ -67,7 +71,7 @@ first_is_stored t s first = record {
         subst (λ (p : RunnerParts). IsRunnerAs t.last_lease t.runs p x) is (record {
           name = refl;
           number = refl;
-          last = last_is t.last_lease t.runs x.last first (s.kept_leases_are_of_legs k x at_x);
+          last = last_is t.last_lease t.runs s.ids_follow x.last first (s.kept_leases_are_of_legs k x at_x);
           holds = refl;
         }));
   };
@@ -122,14 +126,7 @@ one_stored one two first second same =
     let here = first_is_stored one first.0 first.1.1.0.2 in
     let there = first_is_stored two second.0 second.1.1.0.2 in
     let again : IsStoredAs (first_stored_table one) two = subst (λ (s : TableParts). IsStoredAs s two) (sym same) there in
-    let lease : one.last_lease ≡ two.last_lease = sym again.last_lease in
-    let runs : one.runs ≡ two.runs = sym again.runs in
-    let others : AreRunnersAs one.last_lease one.runs (first_stored_table one).runners two.runners =
-    subst (λ (n : ℕ). AreRunnersAs n one.runs (first_stored_table one).runners two.runners) again.last_lease
-    (subst (λ (xs : List RunState). AreRunnersAs two.last_lease xs (first_stored_table one).runners two.runners) again.runs again.runners) in
-    let runners : one.runners ≡ two.runners =
-    same_runners one.last_lease one.runs first.0.leases_differ (first_stored_table one).runners one.runners two.runners here.runners others in
-    λ i. record { last_lease = lease i; runs = runs i; runners = runners i }
+    same_table (first_stored_table one) one two here again
 
 pub first_begins_none : NoneBeginsAnother whole_first_table
 first_begins_none a b more other x y one two same =

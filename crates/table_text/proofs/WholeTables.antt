@@ -4,14 +4,13 @@ use Rattle.std.specs.Prelude.{true, is_some, Option, None, Some}
 use Rattle.std.specs.List.{AllByRecursion}
 use Rattle.table_model.specs.Sound.{IsSound}
 use Rattle.stored_tables.specs.Stored.{RunnerParts, TableParts, stored_table}
-use Rattle.stored_tables.specs.TableOf.{AreRunnersAs, IsNoTable, IsStoredAs}
+use Rattle.stored_tables.specs.TableOf.{IsNoTable, IsStoredAs}
 use Rattle.table_model.specs.TableState.{TableState}
 use Rattle.stored_tables.specs.declared.parts.LastParts.{LastParts}
 use Rattle.stored_tables.specs.declared.parts.LastParts.TheVariants as last
 use Rattle.stored_tables.specs.declared.parts.StoredSite.{StoredSite}
-use Rattle.table_model.specs.Runs.{RunState}
 use Rattle.table_model.proofs.Found.{each_at}
-use Rattle.stored_tables.proofs.StoredOnce.{same_runners}
+use Rattle.stored_tables.proofs.StoredOnce.{same_table}
 use Rattle.stored_tables.proofs.StoredParts.{HasPlace, HavePlaces, is_stored, stored_again}
 use Rattle.definitions.specs.Format.{NoneBeginsAnother, OpensWith, ReadsPrefix, present}
 use Rattle.table_text.specs.inner.ReadingTables.{table_at}
@@ -22,16 +21,8 @@ use Rattle.table_text.proofs.TableReaders.{table_reads}
 -- sound tables with the same stored parts are equal
 one_stored : (one two : TableState) → IsSound one → IsSound two → stored_table one ≡ stored_table two → one ≡ two
 one_stored one two first second same =
-    let again : IsStoredAs (stored_table one) two = subst (λ (s : TableParts). IsStoredAs s two) (sym same) (is_stored two second) in
-    let lease : one.last_lease ≡ two.last_lease = sym again.last_lease in
-    let runs : one.runs ≡ two.runs = sym again.runs in
-    let here : AreRunnersAs one.last_lease one.runs (stored_table one).runners two.runners =
-    subst (λ (n : ℕ). AreRunnersAs n one.runs (stored_table one).runners two.runners) again.last_lease
-    (subst (λ (xs : List RunState). AreRunnersAs two.last_lease xs (stored_table one).runners two.runners) again.runs again.runners) in
-    let runners : one.runners ≡ two.runners =
-    same_runners one.last_lease one.runs first.leases_differ (stored_table one).runners one.runners two.runners
-    (is_stored one first).runners here in
-    λ i. record { last_lease = lease i; runs = runs i; runners = runners i }
+    same_table (stored_table one) one two (is_stored one first)
+    (subst (λ (s : TableParts). IsStoredAs s two) (sym same) (is_stored two second))
 
 pub whole_begins_none : NoneBeginsAnother whole_table
 whole_begins_none a b more other x y one two same =

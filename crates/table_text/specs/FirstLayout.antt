@@ -7,7 +7,7 @@ use Rattle.run_plan.specs.declared.command.Command.{Command}
 use Rattle.run_plan.specs.declared.command.Command.TheVariants as requested
 use Rattle.stored_tables.specs.Stored.{RunnerParts, TableParts}
 use Rattle.stored_tables.specs.declared.parts.LastParts.{LastParts}
-use Rattle.table_model.specs.Runs.{RunState}
+use Rattle.table_model.specs.Parts.{RunParts, stored_run}
 use Rattle.table_text.specs.declared.kept.StoredReply.{StoredReply}
 use Rattle.table_text.specs.declared.kept.StoredReply.TheVariants as replied
 use Rattle.command_encodings.specs.Commands.{admit, batch, command, number, small_text}
@@ -32,8 +32,8 @@ unencoded {A} x = record { Takes = λ (y : A). y ≡ x; encoding = λ _. [] }
 -- ---- runs
 
 -- what was admitted, the phase, the stop flag and the jobs of the plan; the attempt is 1
-abbrev pub first_run : Format RunState
-first_run = parts (λ (r : RunState). (r.admitted, (r.attempt, (r.phase, (r.stopping, r.jobs)))))
+abbrev pub first_run : Format RunParts
+first_run = parts (λ (r : RunParts). (r.admitted, (r.attempt, (r.phase, (r.stopping, r.jobs)))))
     (follow admit (λ a. pair (unencoded 1) (pair (parts run_byte byte) (pair (parts flag_byte byte) (row (jobs_planned a) job)))))
 
 -- ---- runners
@@ -99,7 +99,7 @@ abbrev pub first_stored_runner : RunnerState → RunnerParts
 first_stored_runner r = record { name = r.name; number = r.number; last = first_stored_last r.last; holds = r.holds }
 
 abbrev pub first_stored_table : TableState → TableParts
-first_stored_table t = record { last_lease = t.last_lease; runs = t.runs; runners = map first_stored_runner t.runners }
+first_stored_table t = record { last_lease = t.last_lease; runs = map stored_run t.runs; runners = map first_stored_runner t.runners }
 
 abbrev pub whole_first_table : Format TableState
 whole_first_table = record {

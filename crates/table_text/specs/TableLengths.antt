@@ -3,11 +3,16 @@ use Rattle.std.specs.Prelude.{ℕ, ◌+◌, sum_by, Some, None}
 use Rattle.std.specs.Option.{option_map_or}
 use Rattle.run_plan.specs.declared.command.Command.TheVariants as requested
 use Rattle.stored_tables.specs.Stored.{RunnerParts, TableParts}
-use Rattle.table_runs.specs.StoredSizes.{run_size}
+use Rattle.table_model.specs.Parts.{RunParts}
+use Rattle.table_runs.specs.StoredSizes.{job_size, leg_counts, texts_size}
 use Rattle.stored_tables.specs.declared.parts.LastParts.{LastParts}
 use Rattle.stored_tables.specs.declared.parts.LastParts.TheVariants as last
 use Rattle.stored_tables.specs.declared.parts.StoredLease.{StoredLease}
 use Rattle.command_encodings.specs.Lengths.{command_length, text_length}
+
+-- three texts, each after its length, an attempt, a phase, a flag and the jobs
+abbrev pub run_length : RunParts → ℕ
+run_length r = 18 + texts_size r.admitted + sum_by job_size (leg_counts r.jobs)
 
 -- a lease, and the four numbers of its place
 abbrev pub lease_length : StoredLease → ℕ
@@ -25,4 +30,4 @@ runner_length r = text_length r.name + 4 + last_length r.last + 4
 
 -- the last lease and two counts have four bytes each
 abbrev pub table_length : TableParts → ℕ
-table_length t = 4 + (4 + sum_by run_size t.runs) + (4 + sum_by runner_length t.runners)
+table_length t = 4 + (4 + sum_by run_length t.runs) + (4 + sum_by runner_length t.runners)

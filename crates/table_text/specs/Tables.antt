@@ -9,7 +9,8 @@ use Rattle.run_plan.specs.PlanOf.{plan_of}
 use Rattle.run_plan.specs.declared.command.Command.{Command}
 use Rattle.run_plan.specs.declared.command.Command.TheVariants as requested
 use Rattle.stored_tables.specs.Stored.{RunnerParts, TableParts, is_new, stored_table}
-use Rattle.table_model.specs.Runs.{LegState, JobState, RunState}
+use Rattle.table_model.specs.Parts.{RunParts}
+use Rattle.table_model.specs.Runs.{LegState, JobState}
 use Rattle.stored_tables.specs.declared.parts.LastParts.{LastParts}
 use Rattle.stored_tables.specs.declared.parts.LastParts.TheVariants as last
 use Rattle.stored_tables.specs.declared.parts.StoredLease.{StoredLease}
@@ -91,8 +92,8 @@ abbrev pub jobs_planned : Admitted → ℕ
 jobs_planned a = length (plan_of a.body)
 
 -- what was admitted, the attempt, the phase, the stop flag and the jobs of the plan
-abbrev pub run : Format RunState
-run = parts (λ (r : RunState). (r.admitted, (r.attempt, (r.phase, (r.stopping, r.jobs)))))
+abbrev pub run : Format RunParts
+run = parts (λ (r : RunParts). (r.admitted, (r.attempt, (r.phase, (r.stopping, r.jobs)))))
     (follow admit (λ a. pair (only is_attempt word) (pair (parts run_byte byte) (pair (parts flag_byte byte) (row (jobs_planned a) job)))))
 
 -- ---- runners

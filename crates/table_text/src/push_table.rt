@@ -3,6 +3,7 @@
 
 ghost use Rattle.std.specs.Prelude.{◌≡◌, [], ◌∷◌, ◌++◌, ◌<◌, ◌≤◌, ◌^◌, length, OnErr, OnOk};
 ghost use Rattle.run_plan.specs.declared.last_command.LastCommand.TheVariants as last;
+ghost use Rattle.table_model.specs.Parts.{stored_run};
 ghost use Rattle.stored_tables.specs.Stored.{stored_last, stored_lease, stored_runner, stored_table};
 ghost use Rattle.definitions.specs.Format.{word_bytes};
 ghost use Rattle.table_text.specs.Tables.{flag_byte, job, job_byte, kept_lease, last_command, lease, lease_word, leg, leg_byte, run, run_byte, runner};
@@ -151,9 +152,9 @@ impl Push for Job {
 impl Push for Run {
     ghost can_push = { RunHasBytes };
 
-    ghost takes = { run.Takes };
+    ghost takes = { λ r. run.Takes (stored_run r) };
 
-    ghost encoding = { run.encoding };
+    ghost encoding = { λ r. run.encoding (stored_run r) };
 
     fn push_to(&self, out: &mut Vec<u8>) -> Result<(), AllocError> {
         push_admit(out, self.prepared())?;

@@ -4,7 +4,8 @@ use Rattle.definitions.specs.Limits.{max_runs}
 use Rattle.definitions.specs.SmallText.{Admitted, is_runner_byte}
 use Rattle.stored_tables.specs.Stored.{RunnerParts, TableParts}
 use Rattle.stored_tables.specs.declared.parts.LastParts.{LastParts}
-use Rattle.table_model.specs.Runs.{JobState, RunState}
+use Rattle.table_model.specs.Parts.{RunParts}
+use Rattle.table_model.specs.Runs.{JobState}
 use Rattle.table_model.specs.declared.phases.RunPhase.{RunPhase}
 use Rattle.table_text.specs.declared.kept.StoredReply.{StoredReply}
 use Rattle.table_text.specs.declared.kept.StoredReply.TheVariants as replied
@@ -23,7 +24,7 @@ unencoded_at x bytes = Some (x, bytes)
 unfoldable pub first_course_at : Admitted → Reader (ℕ × (RunPhase × (Bool × List JobState)))
 first_course_at a bytes = pair_at (unencoded_at 1) (pair_at run_phase_at (pair_at flag_at (items_at job_at (jobs_planned a)))) bytes
 
-unfoldable pub first_run_at : Reader RunState
+unfoldable pub first_run_at : Reader RunParts
 first_run_at bytes =
     parts_at (λ (p : Admitted × (ℕ × (RunPhase × (Bool × List JobState)))). record
     { admitted = p.0; attempt = p.1.0; phase = p.1.1.0; stopping = p.1.1.1.0; jobs = p.1.1.1.1 })
@@ -59,7 +60,7 @@ first_runner_at bytes =
 
 -- ---- tables
 
-unfoldable pub first_runs_at : Reader (List RunState)
+unfoldable pub first_runs_at : Reader (List RunParts)
 first_runs_at bytes = counted_at 0 max_runs first_run_at bytes
 
 unfoldable pub first_runners_at : Reader (List RunnerParts)
@@ -67,5 +68,5 @@ first_runners_at bytes = only_at names_rise (counted_at 0 4294967295 first_runne
 
 unfoldable pub first_table_at : Reader TableParts
 first_table_at bytes =
-    parts_at (λ (p : ℕ × (List RunState × List RunnerParts)). record { last_lease = p.0; runs = p.1.0; runners = p.1.1 })
+    parts_at (λ (p : ℕ × (List RunParts × List RunnerParts)). record { last_lease = p.0; runs = p.1.0; runners = p.1.1 })
     (pair_at last_lease_at (pair_at first_runs_at first_runners_at)) bytes

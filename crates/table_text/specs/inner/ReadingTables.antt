@@ -9,7 +9,8 @@ use Rattle.run_plan.specs.declared.command.Done.{Done}
 use Rattle.run_plan.specs.declared.command.Command.{Command}
 use Rattle.run_plan.specs.declared.command.Command.TheVariants as requested
 use Rattle.stored_tables.specs.Stored.{RunnerParts, TableParts, is_new}
-use Rattle.table_model.specs.Runs.{LegState, JobState, RunState}
+use Rattle.table_model.specs.Parts.{RunParts}
+use Rattle.table_model.specs.Runs.{LegState, JobState}
 use Rattle.stored_tables.specs.declared.parts.LastParts.{LastParts}
 use Rattle.stored_tables.specs.declared.parts.LastParts.TheVariants as last
 use Rattle.stored_tables.specs.declared.parts.StoredLease.{StoredLease}
@@ -85,7 +86,7 @@ attempt_at bytes = only_at is_attempt word_at bytes
 unfoldable pub course_at : Admitted → Reader (ℕ × (RunPhase × (Bool × List JobState)))
 course_at a bytes = pair_at attempt_at (pair_at run_phase_at (pair_at flag_at (items_at job_at (jobs_planned a)))) bytes
 
-unfoldable pub run_at : Reader RunState
+unfoldable pub run_at : Reader RunParts
 run_at bytes =
     parts_at (λ (p : Admitted × (ℕ × (RunPhase × (Bool × List JobState)))). record
     { admitted = p.0; attempt = p.1.0; phase = p.1.1.0; stopping = p.1.1.1.0; jobs = p.1.1.1.1 })
@@ -150,7 +151,7 @@ runner_at bytes =
 unfoldable pub last_lease_at : Reader ℕ
 last_lease_at bytes = only_at is_last_lease word_at bytes
 
-unfoldable pub runs_at : Reader (List RunState)
+unfoldable pub runs_at : Reader (List RunParts)
 runs_at bytes = counted_at 0 max_runs run_at bytes
 
 unfoldable pub runners_at : Reader (List RunnerParts)
@@ -158,5 +159,5 @@ runners_at bytes = only_at names_rise (counted_at 0 4294967295 runner_at) bytes
 
 unfoldable pub table_at : Reader TableParts
 table_at bytes =
-    parts_at (λ (p : ℕ × (List RunState × List RunnerParts)). record { last_lease = p.0; runs = p.1.0; runners = p.1.1 })
+    parts_at (λ (p : ℕ × (List RunParts × List RunnerParts)). record { last_lease = p.0; runs = p.1.0; runners = p.1.1 })
     (pair_at last_lease_at (pair_at runs_at runners_at)) bytes

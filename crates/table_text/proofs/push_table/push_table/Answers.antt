@@ -2,9 +2,9 @@ use Rattle.std.proofs.Common.{ℕ, ◌≤◌, sym, subst}
 use Rattle.std.specs.List.{AllByRecursion}
 use Rattle.stored_tables.specs.Stored.{stored_runner}
 use Rattle.table_model.specs.TableState.{RunnerState}
-use Rattle.table_text.specs.Tables.{run, runner}
+use Rattle.table_text.specs.Tables.{runner}
 use Rattle.table_text.specs.inner.Writing.{KeptHasBytes, RunHasBytes}
-use Rattle.table_text.proofs.TableKnown.{runners_have_bytes, runs_have_bytes, table_bytes, table_takes}
+use Rattle.table_text.proofs.TableKnown.{AreTaken, runners_have_bytes, runs_have_bytes, table_bytes, table_takes}
 use Rattle.table_text.proofs.push_table.push_table.Goals as goal
 
 pub push_list-requires : goal.push_list-requires
@@ -15,13 +15,13 @@ pub push_list-requires-2 : goal.push_list-requires-2
 push_list-requires-2 c =
     subst (AllByRecursion (λ (r : RunnerState). KeptHasBytes r.last)) (sym c.runners-runners.ensures.runners)
     (runners_have_bytes c.args.value.now c.last_lease.ensures.sound
-    (subst (AllByRecursion run.Takes) c.runs-runs.ensures.runs c.in_ok-push_list.ensures.takes))
+    (subst AreTaken c.runs-runs.ensures.runs c.in_ok-push_list.ensures.takes))
 
 pub returns-clause-takes : goal.returns-clause-takes
 returns-clause-takes c =
     table_takes c.args.value.now (subst (λ (n : ℕ). n ≤ 999999999) c.last_lease.ensures.lease c.last_lease.ensures.most)
     c.runs-runs.ensures.storable.few_runs
-    (subst (AllByRecursion run.Takes) c.runs-runs.ensures.runs c.in_ok-push_list.ensures.takes) c.requires
+    (subst AreTaken c.runs-runs.ensures.runs c.in_ok-push_list.ensures.takes) c.requires
     (subst (AllByRecursion (λ (r : RunnerState). runner.Takes (stored_runner r))) c.runners-runners.ensures.runners
     c.in_ok-push_list-2.ensures.takes) c.runners-runners.ensures.rise
 
