@@ -1,5 +1,6 @@
 ghost use Rattle.std.specs.Prelude.{◌<◌, ◌≤◌, ◌^◌, length};
 ghost use Rattle.run_plan.specs.declared.last_command.LastCommand.TheVariants as last;
+ghost use Rattle.table_model.specs.Parts.{stored_run};
 ghost use Rattle.table_model.specs.Sound.{IsSound};
 ghost use Rattle.stored_tables.specs.Stored.{stored_last, stored_lease, stored_runner, stored_table};
 ghost use Rattle.table_text.specs.Tables.{job, kept_lease, last_command, lease, leg, run, runner, table};
@@ -45,7 +46,7 @@ impl Fits for Job {
 impl Fits for Run {
     ghost can = { RunHasBytes };
 
-    ghost takes = { run.Takes };
+    ghost takes = { λ r. run.Takes (stored_run r) };
 
     fn fits(&self) {
         admit_fits(self.prepared());
