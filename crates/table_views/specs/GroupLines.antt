@@ -1,10 +1,11 @@
 -- The concurrency groups that a run or a leg holds or waits for, as an operator sees them: which holder of each is in
 -- progress, and which is pending. GitHub Docs, "Control the concurrency of workflows and jobs". The format is defined
 -- by this project.
-use Rattle.std.specs.Prelude.{ℕ, ◌+◌, List, ◌++◌, ◌||◌, filter_map, flat_map, codes, decimal, if◌then◌else◌, Option, Some, None}
+use Rattle.std.specs.Prelude.{ℕ, List, ◌++◌, ◌||◌, filter_map, flat_map, codes, decimal, if◌then◌else◌, Option, Some, None}
 use Rattle.group_name.specs.Group.{Group, same_group}
 use Rattle.group_name.specs.KeyTexts.{name_bytes, repository_bytes}
 use Rattle.table_model.specs.Groups.{group_at, all_holders, group_state, holds, waits}
+use Rattle.table_model.specs.LegContext.{id_at}
 use Rattle.table_model.specs.Runs.{RunState}
 use Rattle.table_views.specs.Distinct.{distinct}
 use Rattle.table_views.specs.Texts.{leg_members, leg_words, line, quoted}
@@ -32,8 +33,8 @@ groups_in_use runs = distinct_groups (filter_map (group_in_use runs) (all_holder
 abbrev pub holder_text : Form → List RunState → Option Holder → List ℕ
 holder_text form.Lines runs None = codes "-"
 holder_text form.Json runs None = codes "null"
-holder_text form.Lines runs (Some (Run r)) = codes "run " ++ decimal (r + 1)
-holder_text form.Json runs (Some (Run r)) = codes "{\"run\":" ++ decimal (r + 1) ++ codes "}"
+holder_text form.Lines runs (Some (Run r)) = codes "run " ++ decimal (id_at runs r)
+holder_text form.Json runs (Some (Run r)) = codes "{\"run\":" ++ decimal (id_at runs r) ++ codes "}"
 holder_text form.Lines runs (Some (Leg p)) = codes "leg " ++ leg_words runs p
 holder_text form.Json runs (Some (Leg p)) = codes "{" ++ leg_members runs p ++ codes "}"
 

@@ -5,6 +5,7 @@ use Rattle.std.specs.Option.{option_and_then}
 use Rattle.group_name.specs.Group.{Group}
 use Rattle.group_name.specs.KeyTexts.{name_bytes, repository_bytes}
 use Rattle.table_model.specs.Groups.{holds}
+use Rattle.table_model.specs.LegContext.{id_at}
 use Rattle.table_model.specs.Runs.{RunState}
 use Rattle.table_model.specs.declared.holder.Holder.{Holder}
 use Rattle.table_model.specs.declared.holder.Holder.TheVariants.{Run, Leg}
@@ -24,7 +25,7 @@ is_group_shown f g = is_wanted f.repository (repository_bytes g) && is_wanted f.
 
 -- the run or the leg, as members
 abbrev pub holder_members : List RunState → Holder → List ℕ
-holder_members runs (Run r) = codes "\"run\":" ++ decimal (r + 1) ++ codes ",\"job\":null,\"leg\":null"
+holder_members runs (Run r) = codes "\"run\":" ++ decimal (id_at runs r) ++ codes ",\"job\":null,\"leg\":null"
 holder_members runs (Leg p) = leg_members runs p
 
 abbrev pub holding_word : List RunState → Holder → List ℕ

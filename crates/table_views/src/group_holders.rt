@@ -15,7 +15,7 @@ use crate::members::{number_or_null, push_text};
 use crate::pages::{Source, page_of, page_text};
 use crate::run_filter::is_wanted;
 use crate::run_legs::{legs_at, next_run, start_at};
-use crate::texts::{leg_members, quoted};
+use crate::texts::{leg_members, quoted, run_id};
 use group_name::GroupKey;
 use run_plan::Number;
 use run_table::Table;
@@ -38,7 +38,7 @@ fn holder_members(alloc: Global, runs: &Runs, holder: &Holder) -> Result<String,
 {
     match holder {
         Holder::Run(r) => {
-            let run = *r + 1;
+            let run = run_id(runs, *r);
             Ok(format!(in alloc; "\"run\":{run},\"job\":null,\"leg\":null")?)
         }
         Holder::Leg(site) => leg_members(alloc, runs, *site),

@@ -17,7 +17,7 @@ ghost use Rattle.table_model.specs.declared.holder.Holder.TheVariants as held;
 
 use crate::claim::GroupClaim;
 use crate::form::Form;
-use crate::texts::{leg_members, leg_words, quoted};
+use crate::texts::{leg_members, leg_words, quoted, run_id};
 use group_name::GroupKey;
 use std::alloc::{AllocError, Global};
 use table_model::{Holder, LegSite};
@@ -93,11 +93,10 @@ fn text_of_leg(alloc: Global, form: Form, runs: &Runs, site: LegSite) -> Result<
     }
 }
 
-fn text_of_run(alloc: Global, form: Form, index: usize) -> Result<String, Refusal>
-    requires { index < max_runs }
-    ensures { Gives string_bytes result (Ok (holder_text form [] (Some (held.Run index)))) }
+fn text_of_run(alloc: Global, form: Form, runs: &Runs, index: usize) -> Result<String, Refusal>
+    ensures { Gives string_bytes result (Ok (holder_text form runs.now (Some (held.Run index)))) }
 {
-    let run = index + 1;
+    let run = run_id(runs, index);
     match form {
         Form::Lines => Ok(format!(in alloc; "run {run}")?),
         Form::Json => Ok(format!(in alloc; "{{\"run\":{run}}}")?),
@@ -124,7 +123,7 @@ fn text_of_holder(
     ensures { Gives string_bytes result (Ok (holder_text form runs.now (Some holder.now))) }
 {
     match holder {
-        Holder::Run(r) => text_of_run(alloc, form, *r),
+        Holder::Run(r) => text_of_run(alloc, form, runs, *r),
         Holder::Leg(site) => text_of_leg(alloc, form, runs, *site),
     }
 }

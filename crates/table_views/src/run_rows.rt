@@ -141,7 +141,7 @@ fn number_members(alloc: Global, view: &RunView<'_>) -> Result<String, AllocErro
 {
     let id = view.id().get();
     let mut text = format!(in alloc; "\"run\":{id}")?;
-    push_number(&mut text, "number", view.number() as u64)?;
+    push_number(&mut text, "number", u64::from(view.number().get()))?;
     push_number(&mut text, "attempt", u64::from(view.run().attempt().get()))?;
     Ok(text)
 }

@@ -62,12 +62,12 @@ fn run_start(alloc: Global, view: &RunView<'_>) -> Result<String, Refusal>
     ensures { Gives string_bytes result (Ok (run_start view.now)) }
 {
     let id = view.id().get();
-    let number = view.number();
+    let number = view.number().get();
     let attempt = view.run().attempt().get();
     Ok(run_numbers(alloc, id, number, attempt)?)
 }
 
-fn run_numbers(alloc: Global, id: u32, number: usize, attempt: u32) -> Result<String, AllocError>
+fn run_numbers(alloc: Global, id: u32, number: u32, attempt: u32) -> Result<String, AllocError>
     ensures { IfOk result (λ s. string_bytes s ≡ codes "{\"run\":" ++ decimal id ++ codes ",\"number\":" ++ decimal number
         ++ codes ",\"attempt\":" ++ decimal attempt) }
 {

@@ -4,6 +4,7 @@ ghost use Rattle.std.specs.Prelude.{◌≡◌, ◌++◌, ◌<◌, IfOk, Ok, OnOk
 ghost use Rattle.std.specs.List.{join_with_byte};
 ghost use Rattle.definitions.specs.Limits.{max_runs};
 ghost use Rattle.wf_value.specs.Gives.{Gives};
+ghost use Rattle.table_model.specs.LegContext.{id_at};
 ghost use Rattle.table_views.specs.Texts.{leg_members, leg_words, listed, quoted};
 
 use json::Writer;
@@ -52,12 +53,22 @@ fn push_joined(items: &[Chars], text: &mut String) -> Result<(), AllocError>
     Ok(())
 }
 
+/// The id of the run at an index, 0 if there is none.
+pub(crate) fn run_id(runs: &Runs, r: usize) -> u32
+    ensures { result ≡ id_at runs.now r }
+{
+    match runs.as_slice().get(r) {
+        Some(run) => run.id().get(),
+        None => 0,
+    }
+}
+
 /// A leg as words: its run, its job and its number.
 pub(crate) fn leg_words(alloc: Global, runs: &Runs, site: LegSite) -> Result<String, Refusal>
     requires { site.run < max_runs }
     ensures { Gives string_bytes result (Ok (leg_words runs.now site)) }
 {
-    let run = site.run + 1;
+    let run = run_id(runs, site.run);
     let id = runs.job_id(alloc, site.run, site.job)?;
     let job = id.as_str();
     let leg = site.leg;
@@ -69,7 +80,7 @@ pub(crate) fn leg_members(alloc: Global, runs: &Runs, site: LegSite) -> Result<S
     requires { site.run < max_runs }
     ensures { Gives string_bytes result (Ok (leg_members runs.now site)) }
 {
-    let run = site.run + 1;
+    let run = run_id(runs, site.run);
     let job = runs.job_id(alloc, site.run, site.job)?;
     let job = quoted(alloc, job.as_str())?;
     let leg = site.leg;
