@@ -10,7 +10,6 @@ use Rattle.wf_value.specs.Gives.{no_memory}
 use Rattle.wf_value.specs.declared.code.Code.TheVariants.{NoRun}
 use Rattle.wf_value.specs.declared.refusal.Refusal.{Refusal}
 use Rattle.wf_value.specs.declared.refusal.Refusal.TheVariants.{Numbered}
-use Rattle.table_model.specs.LegContext.{events, run_number}
 use Rattle.table_model.specs.Step.{seen}
 use Rattle.table_model.specs.TableState.{TableState}
 use Rattle.table_model.specs.Runs.{RunState}
@@ -32,12 +31,9 @@ use Rattle.program_commands.proofs.Writing.{flushed, written_faults}
 abbrev pub lines_after : Form → TableState → ℕ → List ℕ
 lines_after form t index = lines_from form t (index + 1) (length t.runs - index)
 
--- the view of a run with an id
-abbrev shown_of : TableState → ℕ → RunState → Seen
-shown_of t id run = record { id = id; number = run_number (events t.runs) (id - 1) run.admitted; run = run }
-
-abbrev seen_by : TableState → ℕ → Option RunState → Option Seen
-seen_by t id found = option_map (shown_of t id) found
+-- the view of a run
+abbrev shown_of : RunState → Seen
+shown_of run = record { id = run.id; number = run.number; run = run }
 
 all_after : (form : Form) (t : TableState) → lines_after form t 0 ≡ run_lines form t
 all_after form t = ap (λ n. lines_from form t 1 n) (let same : length t.runs - 0 ≡ length t.runs = omega arith in same)
@@ -53,7 +49,7 @@ there t index run is =
     let cases = slice_get_cases t.runs (index + 1 - 1) in
     elim cases.1 [
       | inl found ↦ omega (arith, found.1)
-      | inr past ↦ absurd (let clash : None ≡ Some run = sym (ap (seen_by t (index + 1)) past.1) ∙ is in cc)
+      | inr past ↦ absurd (let clash : None ≡ Some run = sym (ap (option_map shown_of) past.1) ∙ is in cc)
     ]
 
 -- its line comes before those of the later ones
