@@ -22,6 +22,8 @@ use wf_value::{Refusal, TryCopy};
 #[derive(Drop)]
 pub struct Table {
     table_data: TableData,
+    /// How often settling had tried a rule before the last step.
+    tries_before: u64,
 }
 
 impl Model for Table {
@@ -42,6 +44,7 @@ impl Table {
     {
         Table {
             table_data: TableData::new(alloc),
+            tries_before: 0,
         }
     }
 
@@ -57,6 +60,7 @@ impl Table {
                 runs,
                 runners,
             },
+            tries_before: 0,
         }
     }
 
@@ -99,6 +103,7 @@ impl Table {
         ensures err { OnErr result (self.new ≡ self.old) }
         ensures answers { is_allocation_free (read_only_reply self.old command.now) ≡ true → IsOk result }
     {
+        self.tries_before = self.table_data.runs.tries();
         self.table_data.step(alloc, command)
     }
 
@@ -117,7 +122,16 @@ impl Table {
         ensures err { OnErr result (self.new ≡ self.old) }
         ensures answers { is_allocation_free (read_only_reply self.old command.now) ≡ true → IsOk result }
     {
+        self.tries_before = self.table_data.runs.tries();
         self.table_data.step_with_copy(alloc, command)
+    }
+
+    /// How often the last step tried a settling rule at a site. No contract depends on it.
+    pub fn looked(&self) -> u64 {
+        self.table_data
+            .runs
+            .tries()
+            .saturating_sub(self.tries_before)
     }
 
     /// The event of the last run, if there is a run. It takes no memory.
@@ -171,8 +185,7 @@ impl Table {
         self.table_data.runs()
     }
 
-    /// The runs with what is kept beside them: their numbers and the labels that their legs require. It takes no
-    /// memory.
+    /// The runs with what is kept beside them: the labels that their legs require. It takes no memory.
     pub fn kept_runs(&self) -> &Runs
         ensures runs { result.now ≡ self.now.runs }
     {
@@ -201,6 +214,7 @@ impl TryCopy for Table {
     fn copy(&self, alloc: Global) -> Result<Self, Refusal> {
         Ok(Table {
             table_data: self.table_data.copy(alloc)?,
+            tries_before: self.tries_before,
         })
     }
 }

@@ -38,6 +38,8 @@ pub struct Runs {
     book: Book<Holder>,
     /// The runs in which a settling rule applies.
     due: RunBitmap,
+    /// How often settling has tried a rule at a site.
+    tries: u64,
 }
 
 impl Model for Runs {
@@ -61,6 +63,7 @@ impl Runs {
             rows: Rows::new(alloc),
             book: Book::new(alloc),
             due: RunBitmap::new(alloc),
+            tries: 0,
         }
     }
 
@@ -183,6 +186,7 @@ impl Drop for Runs {
             rows: _,
             book: _,
             due: _,
+            tries: _,
         } = self;
     }
 }
@@ -193,6 +197,7 @@ impl TryCopy for Runs {
             rows: self.rows.copy(alloc)?,
             book: self.book.copy(alloc)?,
             due: self.due.copy()?,
+            tries: self.tries,
         })
     }
 }

@@ -60,6 +60,7 @@ impl Runs {
             rows,
             book,
             due: all_marked(alloc, parts.len())?,
+            tries: 0,
         }))
     }
 }

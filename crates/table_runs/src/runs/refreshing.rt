@@ -5,7 +5,8 @@ ghost use Rattle.std.specs.Bool.{Decides};
 ghost use Rattle.definitions.specs.Limits.{max_runs};
 ghost use Rattle.run_marks.specs.Marked.{is_marked};
 ghost use Rattle.table_model.specs.inner.ActiveRuns.{is_active};
-ghost use Rattle.table_model.specs.inner.Resuming.{RestBefore, apply_at};
+ghost use Rattle.table_model.specs.inner.Resuming.{JobsRestBefore, RestBefore, apply_at};
+ghost use Rattle.table_model.specs.Runs.{run_at, RunState};
 ghost use Rattle.table_model.specs.Settling.{first_site};
 ghost use Rattle.table_model.specs.inner.WithinRun.{first_in_run, fit_in_run};
 ghost use Rattle.settling_laws.specs.inner.RunFacts.{is_so_at};
@@ -63,6 +64,18 @@ impl Runs {
         self.rows.refresh_marks(r);
     }
 
+    /// The first site in run `r` where a rule applies. None applies before the job at index `from`.
+    fn first_site_in_run(&mut self, r: usize, from: usize) -> Option<RuleSite>
+        requires { (run : RunState) → run_at self.old r ≡ Some run → JobsRestBefore self.old r run from }
+        ensures found { result ≡ apply_at (first_in_run self.old) self.old r }
+        ensures kept { self.new ≡ self.old }
+    {
+        let mut tries = self.tries;
+        let site = first_in_run_at(self, r, from, &mut tries);
+        self.tries = tries;
+        site
+    }
+
     /// The first site where a rule applies. None applies before `from`.
     pub(crate) fn first_site(&mut self, from: JobSite) -> Option<RuleSite>
         requires { RestBefore self.old from }
@@ -72,7 +85,7 @@ impl Runs {
         let mut run = from.run;
         while let Some(r) = self.next_due(run) {
             let job = if r == from.run { from.job } else { 0 };
-            let site = first_in_run_at(self, r, job);
+            let site = self.first_site_in_run(r, job);
             if site.is_some() {
                 return site;
             }
@@ -88,6 +101,11 @@ impl Runs {
         ensures kept { self.new ≡ self.old }
     {
         self.first_site(JobSite { run: 0, job: 0 }).is_none()
+    }
+
+    /// How often settling has tried a rule at a site. No contract depends on it.
+    pub fn tries(&self) -> u64 {
+        self.tries
     }
 }
 

@@ -7,9 +7,9 @@ use Rattle.table_runs.proofs.runs.Runs.first_site.Goals as goal
 pub returns-then-is_some-clause-found : goal.returns-then-is_some-clause-found
 returns-then-is_some-clause-found c =
     let runs = c.loop-r.self in
-    let some : is_some c.first_in_run_at-site.result ≡ true = search rules in
-    site_found runs c.in-Some.r c.first_in_run_at-site.result
-    (rest_until runs c.loop-r.run c.in-Some.r c.loop-r.invariant.1 c.in-Some.ensures.between) c.first_in_run_at-site.ensures some
+    let some : is_some c.first_site_in_run-site.result ≡ true = search rules in
+    site_found runs c.in-Some.r c.first_site_in_run-site.result
+    (rest_until runs c.loop-r.run c.in-Some.r c.loop-r.invariant.1 c.in-Some.ensures.between) c.first_site_in_run-site.ensures.found some
     ∙ ap first_site c.loop-r.invariant.0
 
 pub returns-clause-found : goal.returns-clause-found
