@@ -1,12 +1,8 @@
 //! A page of the runs and legs that hold concurrency groups or wait for them, run by run.
 
 ghost use Rattle.std.specs.Prelude.{◌≡◌, ◌&&◌, ◌++◌, ◌∷◌, ◌<◌, ◌^◌, [], IfOk, OnOk, Ok, filter_map, length, map, string_bytes};
-ghost use Rattle.std.specs.List.{All};
-ghost use Rattle.definitions.specs.Limits.{max_runs};
 ghost use Rattle.wf_value.specs.Gives.{ErrsOnlyByMemory, Gives};
-ghost use Rattle.table_model.specs.Holders.{run_of};
 ghost use Rattle.table_views.specs.HolderPages.{IsHolderPage, holder_members, holder_row, holder_rows, holding_word, is_group_shown, row_of_holder};
-ghost use Rattle.table_views.specs.inner.Placed.{IsWithin};
 ghost use Rattle.table_model.specs.declared.holder.Holder.TheVariants as held;
 
 use crate::group_filter::GroupFilter;
@@ -33,7 +29,6 @@ impl GroupFilter {
 }
 
 fn holder_members(alloc: Global, runs: &Runs, holder: &Holder) -> Result<String, Refusal>
-    requires { run_of holder.now < max_runs }
     ensures { Gives string_bytes result (Ok (holder_members runs.now holder.now)) }
 {
     match holder {
@@ -61,7 +56,6 @@ fn holder_row(
     holder: &Holder,
     group: &GroupKey,
 ) -> Result<String, Refusal>
-    requires { run_of holder.now < max_runs }
     ensures { Gives string_bytes result (Ok (holder_row runs.now holder.now group.now)) }
 {
     let repository = quoted(alloc, group.repository())?;
@@ -83,7 +77,6 @@ fn push_holder(
     holder: &Holder,
     rows: &mut Vec<Chars>,
 ) -> Result<(), Refusal>
-    requires { run_of holder.now < max_runs }
     ensures err { ErrsOnlyByMemory result }
     ensures rows { OnOk result (rows.new.items ≡ rows.old.items ++ filter_map (row_of_holder filter.now runs.now) (holder.now ∷ [])) }
 {
@@ -104,7 +97,6 @@ fn push_legs(
     sites: &[LegSite],
     rows: &mut Vec<Chars>,
 ) -> Result<(), Refusal>
-    requires { All IsWithin sites.now }
     ensures err { ErrsOnlyByMemory result }
     ensures rows { OnOk result (rows.new.items ≡ rows.old.items ++ filter_map (row_of_holder filter.now runs.now) (map held.Leg sites.now)) }
 {
@@ -135,7 +127,6 @@ impl Source for Holders<'_> {
         out: &mut Vec<Chars>,
     ) -> Result<usize, Refusal> {
         let before = out.len();
-        let _count = self.runs.len();
         push_holder(alloc, self.runs, self.filter, &Holder::Run(index), out)?;
         let sites = legs_at(alloc, self.runs, index)?;
         push_legs(alloc, self.runs, self.filter, sites.as_slice(), out)?;

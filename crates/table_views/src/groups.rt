@@ -1,17 +1,13 @@
 //! The lines of concurrency groups: which holder of each is in progress, and which is pending. GitHub Docs, "Control
 //! the concurrency of workflows and jobs".
 
-ghost use Rattle.std.specs.Prelude.{◌≡◌, ◌||◌, ◌++◌, ◌<◌, [], ◌∷◌, IfOk, IfSome, None, Ok, OnOk, Some, codes, filter_map, find, length, map, string_bytes};
-ghost use Rattle.std.specs.List.{All};
-ghost use Rattle.definitions.specs.Limits.{max_runs};
+ghost use Rattle.std.specs.Prelude.{◌≡◌, ◌||◌, ◌++◌, ◌<◌, [], ◌∷◌, IfOk, None, Ok, OnOk, Some, codes, filter_map, find, length, map, string_bytes};
 ghost use Rattle.wf_value.specs.Gives.{ErrsOnlyByMemory, Gives};
 ghost use Rattle.table_model.specs.Groups.{all_holders, is_in_progress_in, is_pending_in};
-ghost use Rattle.table_model.specs.Holders.{run_of};
 ghost use Rattle.table_model.specs.Runs.{leg_sites};
 ghost use Rattle.table_views.specs.inner.Claims.{claim_of, claims_of, line_once, said};
 ghost use Rattle.table_views.specs.GroupLines.{group_in_use, group_line, group_lines, holder_text};
 ghost use Rattle.table_views.specs.inner.HolderOrder.{is_before, is_earlier, is_site_before};
-ghost use Rattle.table_views.specs.inner.Placed.{IsWithin};
 ghost use Rattle.table_views.specs.Texts.{line};
 ghost use Rattle.table_model.specs.declared.holder.Holder.TheVariants as held;
 
@@ -47,7 +43,6 @@ fn push_claim(
     claims: &mut Vec<GroupClaim>,
     holder: Holder,
 ) -> Result<(), Refusal>
-    requires { run_of holder < max_runs }
     ensures err { ErrsOnlyByMemory result }
     ensures added { OnOk result (map said claims.new.items
         ≡ map said claims.old.items ++ filter_map (claim_of runs.now) (holder ∷ [])) }
@@ -60,8 +55,7 @@ fn push_claim(
 
 /// All claims: those of the runs, then those of the legs. `sites` has the sites of all legs.
 fn claims_of(alloc: Global, runs: &Runs, sites: &[LegSite]) -> Result<Vec<GroupClaim>, Refusal>
-    requires all { sites.now ≡ leg_sites runs.now }
-    requires within { All IsWithin sites.now }
+    requires { sites.now ≡ leg_sites runs.now }
     ensures err { ErrsOnlyByMemory result }
     ensures claims { IfOk result (λ claims. map said claims.items ≡ claims_of runs.now) }
 {
@@ -78,7 +72,6 @@ fn claims_of(alloc: Global, runs: &Runs, sites: &[LegSite]) -> Result<Vec<GroupC
 // ---- lines
 
 fn text_of_leg(alloc: Global, form: Form, runs: &Runs, site: LegSite) -> Result<String, Refusal>
-    requires { site.run < max_runs }
     ensures { Gives string_bytes result (Ok (holder_text form runs.now (Some (held.Leg site)))) }
 {
     match form {
@@ -119,7 +112,6 @@ fn text_of_holder(
     runs: &Runs,
     holder: &Holder,
 ) -> Result<String, Refusal>
-    requires { run_of holder.now < max_runs }
     ensures { Gives string_bytes result (Ok (holder_text form runs.now (Some holder.now))) }
 {
     match holder {
@@ -134,7 +126,6 @@ fn holder_text(
     runs: &Runs,
     holder: Option<Holder>,
 ) -> Result<String, Refusal>
-    requires { IfSome holder (λ h. run_of h < max_runs) }
     ensures { Gives string_bytes result (Ok (holder_text form runs.now (holder))) }
 {
     match holder {
@@ -268,8 +259,7 @@ pub(crate) fn groups_text(
     runs: &Runs,
     sites: &[LegSite],
 ) -> Result<String, Refusal>
-    requires all { sites.now ≡ leg_sites runs.now }
-    requires within { All IsWithin sites.now }
+    requires { sites.now ≡ leg_sites runs.now }
     ensures { Gives string_bytes result (Ok (group_lines form runs.now)) }
 {
     let claims = claims_of(alloc, runs, sites)?;

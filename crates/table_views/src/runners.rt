@@ -1,13 +1,10 @@
 //! The lines of runners.
 
-ghost use Rattle.std.specs.Prelude.{◌≡◌, ◌++◌, ◌<◌, [], IfOk, IfSome, None, Ok, Some, codes, decimal, false, find, option_copied, string_bytes};
-ghost use Rattle.std.specs.List.{All};
+ghost use Rattle.std.specs.Prelude.{◌≡◌, ◌++◌, [], IfOk, None, Ok, Some, codes, decimal, false, find, option_copied, string_bytes};
 ghost use Rattle.std.specs.Option.{option_map_or};
-ghost use Rattle.definitions.specs.Limits.{max_runs};
 ghost use Rattle.wf_value.specs.Gives.{Gives};
 ghost use Rattle.table_model.specs.Fitting.{has_lease, site_of_lease};
 ghost use Rattle.table_model.specs.Runs.{leg_at, leg_sites};
-ghost use Rattle.table_views.specs.inner.Placed.{IsWithin};
 ghost use Rattle.table_views.specs.RunnerLines.{held_leg, lease_text, runner_line, runner_lines};
 ghost use Rattle.table_views.specs.Texts.{line};
 
@@ -41,19 +38,15 @@ fn has_lease_at(runs: &Runs, site: LegSite, lease: Number) -> bool
 
 /// The first of these sites whose leg has the lease.
 fn first_with_lease<'p>(runs: &Runs, sites: &'p [LegSite], lease: Number) -> Option<&'p LegSite>
-    requires { All IsWithin sites.now }
-    ensures found { option_copied result ≡ find (λ p. option_map_or (has_lease lease) (leg_at runs.now p) false) sites.now }
-    ensures run { IfSome result (λ p. p.now.run < max_runs) }
+    ensures { option_copied result ≡ find (λ p. option_map_or (has_lease lease) (leg_at runs.now p) false) sites.now }
 {
     sites.iter().find(|site| has_lease_at(runs, **site, lease))
 }
 
 /// The leg that has a lease. `sites` has the sites of all legs.
 fn site_of_lease(runs: &Runs, sites: &[LegSite], lease: Number) -> Option<LegSite>
-    requires all { sites.now ≡ leg_sites runs.now }
-    requires within { All IsWithin sites.now }
-    ensures found { result ≡ site_of_lease runs.now lease }
-    ensures run { IfSome result (λ p. p.run < max_runs) }
+    requires { sites.now ≡ leg_sites runs.now }
+    ensures { result ≡ site_of_lease runs.now lease }
 {
     match first_with_lease(runs, sites, lease) {
         Some(site) => Some(*site),
@@ -69,7 +62,6 @@ fn held_text(
     lease: Number,
     site: LegSite,
 ) -> Result<String, Refusal>
-    requires { site.run < max_runs }
     ensures { Gives string_bytes result (Ok (lease_text form runs.now (Some (lease, site)))) }
 {
     let lease = lease.get();
@@ -103,8 +95,7 @@ fn lease_text(
     sites: &[LegSite],
     runner: &Runner,
 ) -> Result<String, Refusal>
-    requires all { sites.now ≡ leg_sites runs.now }
-    requires within { All IsWithin sites.now }
+    requires { sites.now ≡ leg_sites runs.now }
     ensures { Gives string_bytes result (Ok (lease_text form runs.now (held_leg runs.now runner.now))) }
 {
     let Some(lease) = runner.holds else {
@@ -130,8 +121,7 @@ fn runner_line(
     sites: &[LegSite],
     runner: &Runner,
 ) -> Result<String, Refusal>
-    requires all { sites.now ≡ leg_sites runs.now }
-    requires within { All IsWithin sites.now }
+    requires { sites.now ≡ leg_sites runs.now }
     ensures { Gives string_bytes result (Ok (runner_line form runs.now runner.now)) }
 {
     let name = runner.name.as_str();

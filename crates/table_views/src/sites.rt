@@ -1,8 +1,7 @@
 //! All legs of a table, and all runs and legs that may hold a concurrency group.
 
-ghost use Rattle.std.specs.Prelude.{◌≡◌, ◌++◌, ◌<◌, IfOk, OnOk};
+ghost use Rattle.std.specs.Prelude.{◌≡◌, ◌++◌, IfOk, OnOk};
 ghost use Rattle.std.specs.List.{All};
-ghost use Rattle.definitions.specs.Limits.{max_runs};
 ghost use Rattle.table_model.specs.Runs.{leg_sites, leg_sites_of_job, leg_sites_of_run};
 ghost use Rattle.table_views.specs.inner.Placed.{IsWithin};
 
@@ -17,8 +16,7 @@ fn push_legs_of_job(
     j: usize,
     job: &Job,
 ) -> Result<(), AllocError>
-    requires run { r < max_runs }
-    requires within { All IsWithin sites.old.items }
+    requires { All IsWithin sites.old.items }
     ensures sites { OnOk result (sites.new.items ≡ sites.old.items ++ leg_sites_of_job r (j, job.now.state)) }
     ensures within { OnOk result (All IsWithin sites.new.items) }
 {
@@ -34,8 +32,7 @@ pub(crate) fn push_legs_of_run(
     r: usize,
     run: &Run,
 ) -> Result<(), AllocError>
-    requires run { r < max_runs }
-    requires within { All IsWithin sites.old.items }
+    requires { All IsWithin sites.old.items }
     ensures sites { OnOk result (sites.new.items ≡ sites.old.items ++ leg_sites_of_run (r, run.now)) }
     ensures within { OnOk result (All IsWithin sites.new.items) }
 {

@@ -1,8 +1,7 @@
 //! The pieces of lines.
 
-ghost use Rattle.std.specs.Prelude.{◌≡◌, ◌++◌, ◌<◌, IfOk, Ok, OnOk, string_bytes};
+ghost use Rattle.std.specs.Prelude.{◌≡◌, ◌++◌, IfOk, Ok, OnOk, string_bytes};
 ghost use Rattle.std.specs.List.{join_with_byte};
-ghost use Rattle.definitions.specs.Limits.{max_runs};
 ghost use Rattle.wf_value.specs.Gives.{Gives};
 ghost use Rattle.table_model.specs.LegContext.{id_at};
 ghost use Rattle.table_views.specs.Texts.{leg_members, leg_words, listed, quoted};
@@ -65,7 +64,6 @@ pub(crate) fn run_id(runs: &Runs, r: usize) -> u32
 
 /// A leg as words: its run, its job and its number.
 pub(crate) fn leg_words(alloc: Global, runs: &Runs, site: LegSite) -> Result<String, Refusal>
-    requires { site.run < max_runs }
     ensures { Gives string_bytes result (Ok (leg_words runs.now site)) }
 {
     let run = run_id(runs, site.run);
@@ -77,7 +75,6 @@ pub(crate) fn leg_words(alloc: Global, runs: &Runs, site: LegSite) -> Result<Str
 
 /// A leg as members of a JSON object.
 pub(crate) fn leg_members(alloc: Global, runs: &Runs, site: LegSite) -> Result<String, Refusal>
-    requires { site.run < max_runs }
     ensures { Gives string_bytes result (Ok (leg_members runs.now site)) }
 {
     let run = run_id(runs, site.run);

@@ -5,12 +5,12 @@ use Rattle.table_model.specs.Fitting.{has_lease}
 use Rattle.table_model.specs.Runs.{leg_at}
 use Rattle.table_views.proofs.runners.site_of_lease.Goals as goal
 
-pub returns-in-Some-clause-found : goal.returns-in-Some-clause-found
-returns-in-Some-clause-found c =
-    c.in-Some.ensures.found
-    ∙ ap (find (λ p. option_map_or (has_lease c.args.lease) (leg_at c.args.runs.now p) false)) c.requires.all
+pub returns-in-Some : goal.returns-in-Some
+returns-in-Some c =
+    c.in-Some.ensures
+    ∙ ap (find (λ p. option_map_or (has_lease c.args.lease) (leg_at c.args.runs.now p) false)) c.requires
 
-pub returns-in-None-clause-found : goal.returns-in-None-clause-found
-returns-in-None-clause-found c =
-    c.in-None.ensures.found
-    ∙ ap (find (λ p. option_map_or (has_lease c.args.lease) (leg_at c.args.runs.now p) false)) c.requires.all
+pub returns-in-None : goal.returns-in-None
+returns-in-None c =
+    c.in-None.ensures
+    ∙ ap (find (λ p. option_map_or (has_lease c.args.lease) (leg_at c.args.runs.now p) false)) c.requires

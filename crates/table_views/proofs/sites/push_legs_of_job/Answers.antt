@@ -25,5 +25,5 @@ loop-l-preserved c =
       added = added_more old so_far (p ∷ []) mid new c.loop-l.invariant.added more
           ∙ ap (λ zs. old ++ zs) (sym (one_place_more (λ k. leg_site r j k) l legs lt));
       within = subst (All IsWithin) (sym more)
-          (All-append IsWithin mid (p ∷ []) c.loop-l.invariant.within (All-cons IsWithin p [] (c.requires.run, small) (All-nil IsWithin)));
+          (All-append IsWithin mid (p ∷ []) c.loop-l.invariant.within (All-cons IsWithin p [] small (All-nil IsWithin)));
     }
