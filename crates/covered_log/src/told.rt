@@ -15,7 +15,7 @@ use table_views::LegNews;
 pub(crate) enum Told {
     Entry(u64, Snapshot<Command>, Snapshot<Reply>),
     /// A run that begins an attempt: its id, and its number among those of its workflow.
-    Attempt(u64, Snapshot<Runs>, Number, usize, Snapshot<Run>),
+    Attempt(u64, Snapshot<Runs>, Number, Number, Snapshot<Run>),
     Run(u64, Number, Snapshot<Run>),
     Leg(u64, Snapshot<LegNews>),
     Missed,
