@@ -12,7 +12,7 @@ use Rattle.act_store.specs.declared.entry.Entry.{Entry}
 
 -- After each prefix of the history, including the one that a crash leaves, every group has at most one holder of each kind among all runs
 -- and legs of the table. The moves of every group over that prefix, after those that represent its holders at the base, keep the group
--- law. This holds for any names of the holders in the attempts of their runs.
+-- law. This holds for any names of the holders by the ids and attempts of their runs.
 pub record KeepsGroups (base : TableState) (history : List Entry) : Type 0 where
   pub one_pending : (before suffix : List Entry) (g : Group) → history ≡ before ++ suffix
       → length (pending_in (table_after base before).runs g) ≤ 1

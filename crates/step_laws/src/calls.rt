@@ -23,7 +23,7 @@ pub fn carry_out(alloc: Global, table: &mut Table, commands: &[Command]) -> Resu
     ensures law { OnOk result ((names : Names) (g : Group)
         → KeepsLaw (requests_cancellation names g table.old commands.now) (all_moves names g table.old commands.now)) }
     ensures holders { OnOk result ((names : Names) (g : Group)
-        → SayWhoHolds names table.new.runs g (all_moves names g table.old commands.now)) }
+        → SayWhoHolds names table.new g (all_moves names g table.old commands.now)) }
     ensures refused { IfErr result (λ e. e ≡ no_memory) }
     ensures some { OnErr result ((n : ℕ) × (n ≤ length commands.now) × (table.new ≡ after table.old (take n commands.now))) }
 {

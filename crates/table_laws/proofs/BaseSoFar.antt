@@ -11,13 +11,16 @@ use Rattle.table_model.specs.Groups.{cancels_in_progress, is_stop_requested, wai
 use Rattle.table_model.specs.GroupLaw.{has_arrived, has_started, holder_of, is_pending, is_in_progress, is_the, same_holder, Move}
 use Rattle.table_model.specs.Groups.{HasOneEach, all_holders, group_state, holds, is_in, is_pending_in, is_in_progress_in}
 use Rattle.table_model.specs.Runs.{RunState}
+use Rattle.table_model.specs.Sound.{IsSound}
+use Rattle.table_model.specs.TableState.{TableState}
 use Rattle.table_model.proofs.Found.{find_passes, none_found}
 use Rattle.table_model.proofs.RunFits.{RunsFit}
 use Rattle.settling_laws.proofs.OneEach.{IsOneOf, each_holder, one_that_holds, one_that_waits}
+use Rattle.run_table.proofs.Kept.{kept_from_sound}
 use Rattle.run_table.proofs.RunnerOrder.{filter_all, filter_none}
 use Rattle.settling_laws.proofs.ArrivalKeeps.{holder_tested}
 use Rattle.table_laws.specs.GroupChanges.{base_moves, beyond_base, in_progress_moves}
-use Rattle.table_laws.specs.GroupHistories.{named_moves}
+use Rattle.table_laws.specs.GroupHistories.{first_moves}
 use Rattle.table_laws.specs.Names.{Names, name_in}
 use Rattle.table_laws.proofs.GroupBase.{base_keeps_law, base_matches}
 use Rattle.table_laws.proofs.GroupLawWalk.{law_walks, walk_is_law}
@@ -189,15 +192,16 @@ module _ (runs : List RunState) (g : Group) (fit : RunsFit runs) (each : HasOneE
         once = (λ h arrives. refl);
       }
 
-  -- ---- by their names
+-- ---- by their names
 
-  pub base_so_far : (names : Names) (requests : Holder → Bool)
-      → ((n : Holder) → has_arrived n (named_moves names runs (base_moves (group_state runs g))) ≡ true → requests n ≡ false)
-      → SoFar names g requests runs (named_moves names runs (base_moves (group_state runs g)))
-  base_so_far names requests none_requests =
-      let name = name_in names runs in
-      let moves = base_moves (group_state runs g) in
-      after_step names g runs (beyond_base (cancels_in_progress runs) (group_state runs g)) requests [] [] moves (agrees_at_first name)
-      (λ n some. absurd (some refl)) (walk_is_law requests [] tt)
-      (λ k arrives new requested.
-      absurd (true≢false (sym requested ∙ none_requests (name k) (arrived_named name (names_are_injective names runs) k moves ∙ arrives)))) base_law
+pub base_so_far : (names : Names) (g : Group) (requests : Holder → Bool) (t : TableState) → IsSound t
+    → ((n : Holder) → has_arrived n (first_moves names g t) ≡ true → requests n ≡ false) → SoFar names g requests t (first_moves names g t)
+base_so_far names g requests t s none_requests =
+    let name = name_in names t in
+    let state = group_state t.runs g in
+    after_step names g t s (beyond_base (cancels_in_progress t.runs) state) requests [] [] (base_moves state) (agrees_at_first name)
+    (λ n some. absurd (some refl)) (walk_is_law requests [] tt)
+    (λ k arrives new requested.
+    absurd (true≢false (sym requested
+    ∙ none_requests (name k) (arrived_named name (names_are_injective names t s) k (base_moves state) ∙ arrives))))
+    (base_law t.runs g (kept_from_sound t s).fit s.one_of_each_group)

@@ -8,17 +8,18 @@ use Rattle.table_laws.specs.GroupLawTest.{keeps_law}
 use Rattle.table_model.specs.declared.holder.Holder.{Holder}
 use Rattle.table_model.specs.declared.holder.Holder.TheVariants.{Run, Leg}
 
+-- holders by the ids of their runs
 abbrev pub run1 : Holder
-run1 = Run 0
+run1 = Run 1
 
 abbrev pub run2 : Holder
-run2 = Run 1
+run2 = Run 2
 
 abbrev pub run3 : Holder
-run3 = Run 2
+run3 = Run 3
 
 abbrev leg : Holder
-leg = Leg (record { run = 3; job = 1; leg = 2 })
+leg = Leg (record { run = 4; job = 1; leg = 2 })
 
 abbrev never : Holder → Bool
 never h = false

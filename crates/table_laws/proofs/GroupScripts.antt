@@ -202,19 +202,20 @@ new_leg_of_a_stopped_run_ends = refl
 
 -- ---- the moves of these runs
 
-abbrev leg_at_place : ℕ → ℕ → ℕ → Holder
-leg_at_place r j l = Leg (record { run = r; job = j; leg = l })
+-- a leg, by the id of its run
+abbrev leg_of : ℕ → ℕ → ℕ → Holder
+leg_of id j l = Leg (record { run = id; job = j; leg = l })
 
 moves_in_the_first_group : (names : Names) → group_moves names (group (codes "g")) empty two_that_stop_each_other
-    ≡ first_attempts names (Move.arrive (leg_at_place 0 0 0) ∷ Move.start (leg_at_place 0 0 0) ∷ Move.arrive (leg_at_place 1 0 0)
-    ∷ Move.stop (leg_at_place 0 0 0) ∷ Move.end_with Cancelled (leg_at_place 0 0 0) ∷ Move.stop (leg_at_place 1 0 0)
-    ∷ Move.end_with Cancelled (leg_at_place 1 0 0) ∷ [])
+    ≡ first_attempts names (Move.arrive (leg_of 1 0 0) ∷ Move.start (leg_of 1 0 0) ∷ Move.arrive (leg_of 2 0 0)
+    ∷ Move.stop (leg_of 1 0 0) ∷ Move.end_with Cancelled (leg_of 1 0 0) ∷ Move.stop (leg_of 2 0 0)
+    ∷ Move.end_with Cancelled (leg_of 2 0 0) ∷ [])
 unfolding on_tables
 moves_in_the_first_group names = refl
 
 moves_in_the_second_group : (names : Names) → group_moves names (group (codes "h")) empty two_that_stop_each_other
-    ≡ first_attempts names (Move.arrive run2 ∷ Move.start run2 ∷ Move.arrive (leg_at_place 0 1 0) ∷ Move.stop run2 ∷ Move.end_with Cancelled run2
-    ∷ Move.start (leg_at_place 0 1 0) ∷ [])
+    ≡ first_attempts names (Move.arrive run2 ∷ Move.start run2 ∷ Move.arrive (leg_of 1 1 0) ∷ Move.stop run2 ∷ Move.end_with Cancelled run2
+    ∷ Move.start (leg_of 1 1 0) ∷ [])
 unfolding on_tables
 moves_in_the_second_group names = refl
 
@@ -251,9 +252,9 @@ unfolding on_tables
 moves_of_the_runs names = refl
 
 moves_of_the_legs : (names : Names) → group_moves names (group (codes "g")) empty both_cancelled
-    ≡ first_attempts names (Move.arrive (leg_at_place 0 0 0) ∷ Move.start (leg_at_place 0 0 0) ∷ Move.arrive (leg_at_place 0 0 1)
-    ∷ Move.stop (leg_at_place 0 0 0) ∷ Move.end_with Cancelled (leg_at_place 0 0 0) ∷ Move.stop (leg_at_place 0 0 1)
-    ∷ Move.end_with Cancelled (leg_at_place 0 0 1) ∷ [])
+    ≡ first_attempts names (Move.arrive (leg_of 1 0 0) ∷ Move.start (leg_of 1 0 0) ∷ Move.arrive (leg_of 1 0 1)
+    ∷ Move.stop (leg_of 1 0 0) ∷ Move.end_with Cancelled (leg_of 1 0 0) ∷ Move.stop (leg_of 1 0 1)
+    ∷ Move.end_with Cancelled (leg_of 1 0 1) ∷ [])
 unfolding on_tables
 moves_of_the_legs names = refl
 
@@ -278,13 +279,13 @@ unfolding on_tables
 failure_ends_the_ready_leg = refl
 
 moves_of_the_failed_leg : (names : Names) → group_moves names (group (codes "g1")) empty first_leg_fails
-    ≡ first_attempts names (Move.arrive (leg_at_place 0 0 0) ∷ Move.start (leg_at_place 0 0 0) ∷ Move.end_with Failure (leg_at_place 0 0 0) ∷ [])
+    ≡ first_attempts names (Move.arrive (leg_of 1 0 0) ∷ Move.start (leg_of 1 0 0) ∷ Move.end_with Failure (leg_of 1 0 0) ∷ [])
 unfolding on_tables
 moves_of_the_failed_leg names = refl
 
 moves_of_the_other_leg : (names : Names) → group_moves names (group (codes "g2")) empty first_leg_fails
-    ≡ first_attempts names (Move.arrive (leg_at_place 0 0 1) ∷ Move.start (leg_at_place 0 0 1) ∷ Move.stop (leg_at_place 0 0 1)
-    ∷ Move.end_with Cancelled (leg_at_place 0 0 1) ∷ [])
+    ≡ first_attempts names (Move.arrive (leg_of 1 0 1) ∷ Move.start (leg_of 1 0 1) ∷ Move.stop (leg_of 1 0 1)
+    ∷ Move.end_with Cancelled (leg_of 1 0 1) ∷ [])
 unfolding on_tables
 moves_of_the_other_leg names = refl
 
@@ -319,6 +320,6 @@ group_of_a_result =
 
 leg_in_the_group_of_a_result : (names : Names) → group_moves names (group (codes "failure")) empty
     (admit (codes "a") group_of_a_result ∷ claim (codes "r1") 1 ∷ done (codes "r1") 2 1 Failure ∷ [])
-    ≡ first_attempts names (Move.arrive (leg_at_place 0 1 0) ∷ Move.start (leg_at_place 0 1 0) ∷ [])
+    ≡ first_attempts names (Move.arrive (leg_of 1 1 0) ∷ Move.start (leg_of 1 1 0) ∷ [])
 unfolding on_tables
 leg_in_the_group_of_a_result names = refl

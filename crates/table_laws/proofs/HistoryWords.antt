@@ -1,6 +1,6 @@
 -- What follows from the law of a group over all commands.
-use Rattle.std.specs.Prelude.{◌≡◌, ℕ, ◌≤◌, List, [], ◌∷◌, ◌++◌, ◌&&◌, ◌||◌, length, not, Bool, true, false, Some, None, refl}
-use Rattle.std.proofs.Common.{ap, sym, ◌∙◌, subst}
+use Rattle.std.specs.Prelude.{◌≡◌, ◌≤◌, List, [], ◌∷◌, ◌++◌, ◌&&◌, ◌||◌, length, not, Bool, true, false, Some, None, refl}
+use Rattle.std.proofs.Common.{ap, sym, ◌∙◌}
 use Rattle.std.proofs.lemmas.Bool.{and_parts, or_right, true≢false}
 use Rattle.wf_value.specs.declared.outcome.Outcome.{Outcome}
 use Rattle.group_name.specs.Group.{Group}
@@ -17,7 +17,7 @@ use Rattle.table_model.specs.declared.phases.RunPhase.{RunPhase}
 use Rattle.table_model.specs.declared.phases.RunPhase.TheVariants as run
 use Rattle.settling_laws.proofs.ArrivalKeeps.{itself}
 use Rattle.table_laws.specs.GroupHistories.{NeverBegan, all_moves, requests_cancellation}
-use Rattle.table_laws.specs.Names.{Names, attempt_of, name_in}
+use Rattle.table_laws.specs.Names.{Names, name_in}
 use Rattle.table_laws.proofs.GroupFollows.{displaced_by_a_later_one, displaced_never_starts, displaced_waits, first_has_ended}
 use Rattle.table_laws.proofs.GroupSaid.{arrived_on, ended_on}
 use Rattle.table_laws.proofs.HistoryLaw.{group_keeps_law, told_so_far}
@@ -124,18 +124,15 @@ one_displaced names t cs g before after_it newcomer h s e is =
     }
 
 pub displaced_never_began : (names : Names) (t : TableState) (cs : List Command) (g : Group) (before after_it : List Move) (newcomer h : Holder)
-    (attempt : ℕ) → IsSound t → all_moves names g t cs ≡ before ++ Move.arrive newcomer ∷ after_it
-    → next_displaced before ≡ Some (names.name attempt h) → attempt_of (after t cs).runs h ≡ attempt → NeverBegan (after t cs).runs h
-displaced_never_began names t cs g before after_it newcomer h attempt s e is at =
-    let whole = all_moves names g t cs in
+    → IsSound t → all_moves names g t cs ≡ before ++ Move.arrive newcomer ∷ after_it
+    → next_displaced before ≡ Some (name_in names (after t cs) h) → NeverBegan (after t cs).runs h
+displaced_never_began names t cs g before after_it newcomer h s e is =
     let runs = (after t cs).runs in
     let so_far = told_so_far names t cs g s in
-    let gone : IsDisplaced (name_in names runs h) whole =
-    subst (λ (a : ℕ). IsDisplaced (names.name a h) whole) (sym at)
-    (one_displaced names t cs g before after_it newcomer (names.name attempt h) s e is) in
+    let gone = one_displaced names t cs g before after_it newcomer (name_in names (after t cs) h) s e is in
     let arrives = sym (so_far.agrees.arrived h) ∙ gone.arrived in
     let unstarted = sym (so_far.agrees.started h) ∙ gone.unstarted in
-    let of_it = arrived_in_it names g (λ n. false) runs whole so_far h arrives in
+    let of_it = arrived_in_it names g (λ n. false) (after t cs) (all_moves names g t cs) so_far h arrives in
     never_began runs h
     (over_by h (status runs h) so_far.now (so_far.each h of_it) arrives (sym (so_far.agrees.ended h) ∙ gone.ended) unstarted)
     (so_far.unbegun h of_it arrives unstarted)

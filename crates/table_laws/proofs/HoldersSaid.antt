@@ -19,8 +19,11 @@ use Rattle.table_laws.proofs.HolderStatus.{Fits, Status, fits_pending, fits_in_p
 use Rattle.table_laws.proofs.OwnMoves.{own, runs_by_own, waits_by_own}
 use Rattle.table_model.specs.declared.holder.Holder.{Holder}
 
-module _ (names : Names) (runs : List RunState) (g : Group) (requests : Holder → Bool) (whole : List Move)
-    (so_far : SoFar names g requests runs whole) where
+module _ (names : Names) (t : TableState) (g : Group) (requests : Holder → Bool) (whole : List Move)
+    (so_far : SoFar names g requests t whole) where
+  abbrev runs : List RunState
+  runs = t.runs
+
   abbrev moves : List Move
   moves = so_far.now
 
@@ -60,14 +63,14 @@ module _ (names : Names) (runs : List RunState) (g : Group) (requests : Holder �
         | false ↦ λ isnt. ap (λ b. b && was_stopped h moves) (in_progress_said h ∙ isnt)
       ] refl
 
-  in_progress_named : (h : Holder) → is_in_progress (name_in names runs h) whole ≡ is_in_progress h moves
+  in_progress_named : (h : Holder) → is_in_progress (name_in names t h) whole ≡ is_in_progress h moves
   in_progress_named h = ap₂ (λ s e. s && not e) (so_far.agrees.started h) (so_far.agrees.ended h)
 
-  pending_named : (h : Holder) → is_pending (name_in names runs h) whole ≡ is_pending h moves
+  pending_named : (h : Holder) → is_pending (name_in names t h) whole ≡ is_pending h moves
   pending_named h =
       ap₂ (λ a b. a && b) (so_far.agrees.arrived h) (ap₂ (λ s e. not s && not e) (so_far.agrees.started h) (so_far.agrees.ended h))
 
-  pub so_far_says : SayWhoHolds names runs g whole
+  pub so_far_says : SayWhoHolds names t g whole
   so_far_says = record {
     in_progress = (λ h. in_progress_named h ∙ in_progress_said h);
     pending = (λ h. pending_named h ∙ pending_said h);
@@ -77,6 +80,6 @@ module _ (names : Names) (runs : List RunState) (g : Group) (requests : Holder �
   }
 
 pub moves_say_who_holds : (names : Names) (t : TableState) (cs : List Command) (g : Group) → IsSound t
-    → SayWhoHolds names (after t cs).runs g (all_moves names g t cs)
+    → SayWhoHolds names (after t cs) g (all_moves names g t cs)
 moves_say_who_holds names t cs g s =
-    so_far_says names (after t cs).runs g (λ n. false) (all_moves names g t cs) (told_so_far names t cs g s)
+    so_far_says names (after t cs) g (λ n. false) (all_moves names g t cs) (told_so_far names t cs g s)

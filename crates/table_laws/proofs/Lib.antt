@@ -24,6 +24,7 @@ pub mod HistoryLaw
 pub mod HistoryNames
 pub mod HistoryStep
 pub mod HistoryWords
+pub mod HolderIds
 pub mod HolderStatus
 pub mod HoldersOnce
 pub mod HoldersSaid

@@ -1,5 +1,5 @@
 -- No leg of a displaced holder is ever leased, as long as its run is at that attempt.
-use Rattle.std.specs.Prelude.{◌≡◌, ℕ, ◌<◌, ◌≤◌, List, [], ◌∷◌, ◌++◌, ◌||◌, true, false, Option, Some, None, refl}
+use Rattle.std.specs.Prelude.{◌≡◌, ◌⊎◌, ℕ, ◌<◌, ◌≤◌, List, [], ◌∷◌, ◌++◌, ◌||◌, true, false, Option, Some, None, refl}
 use Rattle.std.specs.Option.{option_map_or}
 use Rattle.std.proofs.Common.{arith, ap, ap₂, inl, inr, sym, ◌∙◌, subst, append_assoc}
 use Rattle.std.proofs.lemmas.Bool.{cases_eq, false≢true, or_parts, true≢false}
@@ -17,12 +17,13 @@ use Rattle.table_model.specs.Sound.{IsSound}
 use Rattle.table_model.specs.TableState.{TableState}
 use Rattle.run_table.proofs.StepKeeps.{stepped_is_sound}
 use Rattle.table_laws.specs.GroupHistories.{IsOf, all_moves, first_moves, group_moves, moves_in, step_moves}
-use Rattle.table_laws.specs.Names.{Names, attempt_of, name_in}
+use Rattle.table_laws.specs.Names.{Names, attempt_of, by_id, name_in}
 use Rattle.table_laws.proofs.Requesting.{somebody_comes}
 use Rattle.table_laws.proofs.GroupSaid.{arrived_on, started_on}
 use Rattle.table_laws.proofs.HistoryLaw.{attempts_rise, history_goes_on, told_so_far}
 use Rattle.table_laws.proofs.HistoryStep.{SoFar, arrived_in_it}
 use Rattle.table_laws.proofs.HistoryWords.{one_displaced}
+use Rattle.table_laws.proofs.HolderIds.{by_id_apart, same_by_id}
 use Rattle.table_laws.proofs.LeasesStay.{step_had}
 use Rattle.table_laws.proofs.ReachedTables.{after_is_sound}
 use Rattle.table_laws.proofs.Unbegun.{Unbegun}
@@ -48,35 +49,49 @@ same_attempt : (runs : List RunState) (h : Holder) (p : LegSite) → IsOf h p �
 same_attempt runs (Run r) p of_it = ap (λ (k : ℕ). option_map_or (λ x. x.attempt) (run_at runs k) 1) of_it
 same_attempt runs (Leg q) p of_it = ap (λ (k : LegSite). option_map_or (λ x. x.attempt) (run_at runs k.run) 1) of_it
 
-module _ (names : Names) (g : Group) (a : ℕ) (h : Holder) where
+module _ (names : Names) (g : Group) (a : ℕ) (m : Holder) where
   abbrev name : Holder
-  name = names.name a h
+  name = names.name a m
 
   -- ---- a past attempt makes no more moves
 
-  not_in_step : (t : TableState) (c : Command) → a < attempt_of (stepped t c).table.runs h
-      → has_arrived name (step_moves names g (stepped t c)) ≡ false
-  not_in_step t c later =
-      let s = stepped t c in
-      let runs = s.table.runs in
-      elim (has_arrived name (step_moves names g s)) as
-      (λ b. has_arrived name (step_moves names g s) ≡ b → b ≡ false) [
+  -- in the table the holder with this id is at a later attempt
+  abbrev IsPast : TableState → Type 0
+  IsPast t = (h : Holder) → m ≡ by_id t h → a < attempt_of t.runs h
+
+  past_then : (t : TableState) (c : Command) → IsSound t → IsPast t → IsPast (stepped t c).table
+  past_then t c s past h is =
+      let before : a < attempt_of t.runs h = past h (is ∙ same_by_id t (stepped t c).table s (stepped_is_sound t c s) h) in
+      let rises : attempt_of t.runs h ≤ attempt_of (stepped t c).table.runs h = attempts_rise g t c s h in
+      omega (arith, before, rises)
+
+  not_in_step : (t : TableState) (c : Command) → IsPast (stepped t c).table → has_arrived name (step_moves names g (stepped t c)) ≡ false
+  not_in_step t c past =
+      let made = stepped t c in
+      elim (has_arrived name (step_moves names g made)) as (λ b. has_arrived name (step_moves names g made) ≡ b → b ≡ false) [
         | true ↦ λ arrives.
-            let from = somebody_comes (name_in names runs) name (moves_in runs g s.moves) arrives in
-            let same = names.differ a (attempt_of runs from.0) h from.0 from.2 in
-            let is : a ≡ attempt_of runs h = same.0 ∙ ap (attempt_of runs) (sym same.1) in
+            let from = somebody_comes (name_in names made.table) name (moves_in made.table.runs g made.moves) arrives in
+            let k = from.0 in
+            let same = names.differ a (attempt_of made.table.runs k) m (by_id made.table k) from.2 in
+            let is : a ≡ attempt_of made.table.runs k = same.0 in
+            let later : a < attempt_of made.table.runs k = past k same.1 in
             absurd (omega (arith, is, later))
         | false ↦ λ none. refl
       ] refl
 
-  not_in_rest : (t : TableState) (cs : List Command) → IsSound t → a < attempt_of t.runs h → has_arrived name (group_moves names g t cs) ≡ false
-  not_in_rest t [] s later = refl
-  not_in_rest t (c ∷ cs) s later =
+  not_in_rest : (t : TableState) (cs : List Command) → IsSound t → IsPast t → has_arrived name (group_moves names g t cs) ≡ false
+  not_in_rest t [] s past = refl
+  not_in_rest t (c ∷ cs) s past =
       let next = (stepped t c).table in
-      let rises : attempt_of t.runs h ≤ attempt_of next.runs h = attempts_rise g t c s h in
-      let later_still : a < attempt_of next.runs h = omega (arith, rises, later) in
+      let past_next = past_then t c s past in
       arrived_on name (step_moves names g (stepped t c)) (group_moves names g next cs)
-      ∙ ap₂ (λ x y. x || y) (not_in_step t c later_still) (not_in_rest next cs (stepped_is_sound t c s) later_still)
+      ∙ ap₂ (λ x y. x || y) (not_in_step t c past_next) (not_in_rest next cs (stepped_is_sound t c s) past_next)
+
+  one_step : (t : TableState) (c : Command) (whole : List Move) → IsSound t → SoFar names g (λ k. false) t whole
+      → SoFar names g (λ k. false) (stepped t c).table (whole ++ step_moves names g (stepped t c))
+  one_step t c whole s so_far =
+      subst (λ ms. SoFar names g (λ k. false) (stepped t c).table (whole ++ ms)) (append-nil (step_moves names g (stepped t c)))
+      (history_goes_on names g (λ k. false) t (c ∷ []) whole s (λ k new requested. absurd (false≢true requested)) so_far)
 
   -- ---- a holder with a leased leg that has not started has not arrived
 
@@ -84,52 +99,94 @@ module _ (names : Names) (g : Group) (a : ℕ) (h : Holder) where
   unstarted_before whole more unstarted =
       (or_parts (has_started name whole) (has_started name more) (sym (started_on name whole more) ∙ unstarted)).0
 
-  has_not_come : (p : LegSite) (n : ℕ) → IsOf h p → (t : TableState) (whole : List Move) → SoFar names g (λ k. false) t.runs whole
-      → attempt_of t.runs h ≡ a → had_at t.runs p ≡ Some n → has_started name whole ≡ false → has_arrived name whole ≡ false
-  has_not_come p n of_it t whole so_far at had unstarted =
-      let named : name_in names t.runs h ≡ name = ap (λ k. names.name k h) at in
+  -- in the table a holder has this name, and one of its legs a lease
+  record IsLeased (t : TableState) : Type 0 where
+    pub holder : Holder
+    pub site : LegSite
+    pub lease : ℕ
+    pub of_it : IsOf holder site
+    pub id_is : m ≡ by_id t holder
+    pub attempt_is : attempt_of t.runs holder ≡ a
+    pub had : had_at t.runs site ≡ Some lease
+
+  has_not_come : (t : TableState) (whole : List Move) → SoFar names g (λ k. false) t whole → IsLeased t → has_started name whole ≡ false
+      → has_arrived name whole ≡ false
+  has_not_come t whole so_far leased unstarted =
+      let h = leased.holder in
+      let named : name_in names t h ≡ name = ap₂ names.name leased.attempt_is (sym leased.id_is) in
       elim (has_arrived name whole) as (λ b. has_arrived name whole ≡ b → b ≡ false) [
         | true ↦ λ arrived.
             let came : has_arrived h so_far.now ≡ true = sym (so_far.agrees.arrived h) ∙ ap (λ k. has_arrived k whole) named ∙ arrived in
             let waits : has_started h so_far.now ≡ false = sym (so_far.agrees.started h) ∙ ap (λ k. has_started k whole) named ∙ unstarted in
             absurd (unbegun_had_none t.runs h
-            (so_far.unbegun h (arrived_in_it names g (λ k. false) t.runs whole so_far h came) came waits) p of_it n had)
+            (so_far.unbegun h (arrived_in_it names g (λ k. false) t whole so_far h came) came waits) leased.site leased.of_it leased.lease
+            leased.had)
         | false ↦ λ none. refl
       ] refl
 
+  module _ (t : TableState) (c : Command) (s : IsSound t) (leased : IsLeased t) where
+    abbrev h : Holder
+    h = leased.holder
+
+    abbrev next : TableState
+    next = (stepped t c).table
+
+    next_sound : IsSound next
+    next_sound = stepped_is_sound t c s
+
+    same_id : by_id next h ≡ by_id t h
+    same_id = same_by_id t next s next_sound h
+
+    same_leg : attempt_of next.runs h ≡ a → attempt_of next.runs (Leg leased.site) ≡ attempt_of t.runs (Leg leased.site)
+    same_leg same =
+        same_attempt next.runs h leased.site leased.of_it ∙ same ∙ sym leased.attempt_is
+        ∙ sym (same_attempt t.runs h leased.site leased.of_it)
+
+    past_after : (attempt_of next.runs h ≡ a → ⊥) → IsPast next
+    past_after other k is =
+        let it : h ≡ k = by_id_apart next next_sound h k (same_id ∙ sym leased.id_is ∙ is) in
+        let was : attempt_of t.runs h ≡ a = leased.attempt_is in
+        let rises : attempt_of t.runs h ≤ attempt_of next.runs h = attempts_rise g t c s h in
+        let later : a < attempt_of next.runs h = omega (arith, rises, other, was) in
+        subst (λ (i : Holder). a < attempt_of next.runs i) it later
+
+    -- it has the lease as long as its run stays at the attempt, and then is past
+    leased_then : IsLeased next ⊎ IsPast next
+    leased_then =
+        elim (cases_eq (attempt_of next.runs h) a) [
+          | inl same ↦ inl (record {
+            holder = h;
+            site = leased.site;
+            lease = leased.lease;
+            of_it = leased.of_it;
+            id_is = leased.id_is ∙ sym same_id;
+            attempt_is = same;
+            had = step_had t c s leased.site leased.lease (same_leg same) leased.had;
+          })
+          | inr other ↦ inr (past_after other)
+        ]
+
   -- nor does it arrive later
-  never_comes : (p : LegSite) (n : ℕ) → IsOf h p → (t : TableState) (cs : List Command) (whole : List Move) → IsSound t
-      → SoFar names g (λ k. false) t.runs whole → attempt_of t.runs h ≡ a → had_at t.runs p ≡ Some n
+  never_comes : (t : TableState) (cs : List Command) (whole : List Move) → IsSound t → SoFar names g (λ k. false) t whole → IsLeased t
       → has_started name (whole ++ group_moves names g t cs) ≡ false → has_arrived name (whole ++ group_moves names g t cs) ≡ false
-  never_comes p n of_it t [] whole s so_far at had unstarted =
+  never_comes t [] whole s so_far leased unstarted =
       ap (has_arrived name) (append-nil whole)
-      ∙ has_not_come p n of_it t whole so_far at had (ap (has_started name) (sym (append-nil whole)) ∙ unstarted)
-  never_comes p n of_it t (c ∷ cs) whole s so_far at had unstarted =
+      ∙ has_not_come t whole so_far leased (ap (has_started name) (sym (append-nil whole)) ∙ unstarted)
+  never_comes t (c ∷ cs) whole s so_far leased unstarted =
       let next = (stepped t c).table in
+      let next_sound = stepped_is_sound t c s in
       let made = step_moves names g (stepped t c) in
       let rest = group_moves names g next cs in
-      elim (cases_eq (attempt_of next.runs h) a) [
-        | inl same ↦
-            let stays : attempt_of next.runs (Leg p) ≡ attempt_of t.runs (Leg p) =
-            same_attempt next.runs h p of_it ∙ same ∙ sym at ∙ sym (same_attempt t.runs h p of_it) in
+      elim (leased_then t c s leased) [
+        | inl still ↦
             ap (has_arrived name) (sym (append_assoc whole made rest))
-            ∙ never_comes p n of_it next cs (whole ++ made) (stepped_is_sound t c s) (one_step t c whole s so_far) same
-            (step_had t c s p n stays had) (ap (has_started name) (append_assoc whole made rest) ∙ unstarted)
-        | inr other ↦
-            let rises : attempt_of t.runs h ≤ attempt_of next.runs h = attempts_rise g t c s h in
-            let later : a < attempt_of next.runs h = omega (arith, rises, other, at) in
+            ∙ never_comes next cs (whole ++ made) next_sound (one_step t c whole s so_far) still
+            (ap (has_started name) (append_assoc whole made rest) ∙ unstarted)
+        | inr past ↦
             arrived_on name whole (made ++ rest)
-            ∙ ap₂ (λ x y. x || y)
-            (has_not_come p n of_it t whole so_far at had (unstarted_before whole (made ++ rest) unstarted))
-            (arrived_on name made rest
-            ∙ ap₂ (λ x y. x || y) (not_in_step t c later) (not_in_rest next cs (stepped_is_sound t c s) later))
+            ∙ ap₂ (λ x y. x || y) (has_not_come t whole so_far leased (unstarted_before whole (made ++ rest) unstarted))
+            (arrived_on name made rest ∙ ap₂ (λ x y. x || y) (not_in_step t c past) (not_in_rest next cs next_sound past))
       ]
-    where
-      one_step : (t : TableState) (c : Command) (whole : List Move) → IsSound t → SoFar names g (λ k. false) t.runs whole
-          → SoFar names g (λ k. false) (stepped t c).table.runs (whole ++ step_moves names g (stepped t c))
-      one_step t c whole s so_far =
-          subst (λ ms. SoFar names g (λ k. false) (stepped t c).table.runs (whole ++ ms)) (append-nil (step_moves names g (stepped t c)))
-          (history_goes_on names g (λ k. false) t (c ∷ []) whole s (λ k new requested. absurd (false≢true requested)) so_far)
 
 -- ---- all commands
 
@@ -147,19 +204,27 @@ no_lease_then None never = refl
 no_lease_then (Some n) never = absurd (never n refl)
 
 pub displaced_never_leased : (names : Names) (t : TableState) (first second : List Command) (g : Group) (before after_it : List Move)
-    (newcomer h : Holder) (attempt : ℕ) → IsSound t
-    → all_moves names g t (first ++ second) ≡ before ++ Move.arrive newcomer ∷ after_it
-    → next_displaced before ≡ Some (names.name attempt h) → attempt_of (after t first).runs h ≡ attempt
+    (newcomer h : Holder) → IsSound t → all_moves names g t (first ++ second) ≡ before ++ Move.arrive newcomer ∷ after_it
+    → next_displaced before ≡ Some (name_in names (after t first) h)
     → (p : LegSite) (z : LegState) → IsOf h p → leg_at (after t first).runs p ≡ Some z → z.lease ≡ None
-displaced_never_leased names t first second g before after_it newcomer h attempt s e is at p z of_it there =
-    let name = names.name attempt h in
+displaced_never_leased names t first second g before after_it newcomer h s e is p z of_it there =
     let whole = all_moves names g t first in
     let middle = after t first in
+    let name = name_in names middle h in
     let gone = one_displaced names t (first ++ second) g before after_it newcomer name s e is in
     let parts : all_moves names g t (first ++ second) ≡ whole ++ group_moves names g middle second =
     ap (λ ms. first_moves names g t ++ ms) (moves_of_both names g t first second)
     ∙ sym (append_assoc (first_moves names g t) (group_moves names g t first) (group_moves names g middle second)) in
     no_lease_then z.lease (λ n has.
     true≢false (sym gone.arrived ∙ ap (has_arrived name) parts
-    ∙ never_comes names g attempt h p n of_it middle second whole (after_is_sound t first s) (told_so_far names t first g s) at
-    (had_from_leg middle.runs p z there ∙ has) (ap (has_started name) (sym parts) ∙ gone.unstarted)))
+    ∙ never_comes names g (attempt_of middle.runs h) (by_id middle h) middle second whole (after_is_sound t first s)
+    (told_so_far names t first g s) (record {
+      holder = h;
+      site = p;
+      lease = n;
+      of_it = of_it;
+      id_is = refl;
+      attempt_is = refl;
+      had = had_from_leg middle.runs p z there ∙ has;
+    })
+    (ap (has_started name) (sym parts) ∙ gone.unstarted)))

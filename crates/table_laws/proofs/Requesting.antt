@@ -7,6 +7,7 @@ use Rattle.group_name.specs.Group.{Group}
 use Rattle.table_model.specs.Groups.{cancels_in_progress}
 use Rattle.table_model.specs.GroupLaw.{arrival_of, has_arrived, same_holder, Move}
 use Rattle.settling_laws.proofs.ArrivalKeeps.{holder_tested}
+use Rattle.table_model.specs.Sound.{IsSound}
 use Rattle.table_model.specs.TableState.{Step}
 use Rattle.table_laws.specs.GroupHistories.{requests_in, moves_in, step_moves}
 use Rattle.table_laws.specs.Names.{Names, name_in, renamed}
@@ -41,11 +42,11 @@ module _ (name : Holder → Holder) (n : Holder) where
 
 module _ (names : Names) (g : Group) (s : Step) where
   -- a holder that arrives in the step
-  pub requests_now : (k : Holder) (later : Bool) → has_arrived k (moves_in s.table.runs g s.moves) ≡ true
-      → unwrap_or (requests_in names g s (name_in names s.table.runs k)) later ≡ cancels_in_progress s.table.runs k
-  requests_now k later arrives =
-      let name = name_in names s.table.runs in
-      let one = names_are_injective names s.table.runs in
+  pub requests_now : IsSound s.table → (k : Holder) (later : Bool) → has_arrived k (moves_in s.table.runs g s.moves) ≡ true
+      → unwrap_or (requests_in names g s (name_in names s.table k)) later ≡ cancels_in_progress s.table.runs k
+  requests_now sound k later arrives =
+      let name = name_in names s.table in
+      let one = names_are_injective names s.table sound in
       let moves = moves_in s.table.runs g s.moves in
       let from = somebody_comes name (name k) moves (arrived_named name one k moves ∙ arrives) in
       ap (λ o. unwrap_or (option_map (cancels_in_progress s.table.runs) o) later) from.1
@@ -55,4 +56,4 @@ module _ (names : Names) (g : Group) (s : Step) where
   pub requests_later : (n : Holder) (later : Bool) → has_arrived n (step_moves names g s) ≡ false → unwrap_or (requests_in names g s n) later ≡ later
   requests_later n later none =
       ap (λ o. unwrap_or (option_map (cancels_in_progress s.table.runs) o) later)
-      (nobody_comes (name_in names s.table.runs) n (moves_in s.table.runs g s.moves) none)
+      (nobody_comes (name_in names s.table) n (moves_in s.table.runs g s.moves) none)

@@ -3,7 +3,7 @@
 use Rattle.std.specs.Prelude.{◌≡◌, ℕ, ◌+◌, ◌-◌, ◌≤◌, List, [], ◌∷◌, ◌++◌, ◌&&◌, ◌||◌, not, Bool, true, false, Some, None, if◌then◌else◌}
 use Rattle.std.specs.Prelude.{refl}
 use Rattle.std.specs.Option.{option_map_or}
-use Rattle.std.proofs.Common.{arith, ap, inl, inr, sym, ◌∙◌, subst, append_assoc}
+use Rattle.std.proofs.Common.{arith, ap, ap₂, inl, inr, sym, ◌∙◌, subst, append_assoc}
 use Rattle.std.proofs.lemmas.Bool.{and_from, and_parts, false≢true, true≢false}
 use Rattle.std.proofs.lemmas.List.{append-nil}
 use Rattle.std.proofs.lemmas.Option.{same_Some}
@@ -25,7 +25,7 @@ use Rattle.run_table.proofs.BeginsAgain.{BeginsAgain}
 use Rattle.run_table.proofs.EnteredAgain.{again_fits, again_waits, beside_again, entered_again_one_each, group_beside}
 use Rattle.run_table.proofs.Kept.{kept_from_sound}
 use Rattle.table_laws.specs.GroupHistories.{moves_in, step_moves}
-use Rattle.table_laws.specs.Names.{Names, attempt_of, name_in}
+use Rattle.table_laws.specs.Names.{Names, attempt_of, by_id, name_in}
 use Rattle.table_laws.proofs.Agrees.{Agrees}
 use Rattle.table_laws.proofs.AttemptNames.{again_grows, again_rises, attempt_before, attempt_elsewhere, attempt_then, entered_fits, entry_grows}
 use Rattle.table_laws.proofs.Forgotten.{forgets, latest_kept}
@@ -33,6 +33,7 @@ use Rattle.table_laws.proofs.GroupSaid.{latest_on, pending_on}
 use Rattle.table_laws.proofs.GroupsKept.{grows_not, is_in_kept}
 use Rattle.table_laws.proofs.HistoryNames.{later_is_new, still_named}
 use Rattle.table_laws.proofs.HistoryStep.{AreRequested, SoFar, after_step, arrived_in_it}
+use Rattle.table_laws.proofs.HolderIds.{same_by_id}
 use Rattle.table_laws.proofs.HolderStatus.{Fits, Status, fits_pending, fits_in_progress, holds_as, is_waiting, status, waiting_is, waits_as}
 use Rattle.table_laws.proofs.LawSoFar.{LawSoFar, unseen_is_unmoved}
 use Rattle.table_laws.proofs.NamedMoves.{displaced_is, last_same, pending_unmoved}
@@ -53,7 +54,8 @@ still_waits true false true is = cc
 still_waits true false false is = refl
 
 module _ (names : Names) (g : Group) (requests : Holder → Bool) (t : TableState) (requested : Attempt) (s : IsSound t)
-    (begins : BeginsAgain t.runs (requested.run - 1) requested.attempt) (whole : List Move) (so_far : SoFar names g requests t.runs whole) where
+    (begins : BeginsAgain t.runs (requested.run - 1) requested.attempt) (whole : List Move) (so_far : SoFar names g requests t whole)
+    (sound_then : IsSound (rerunning t requested).table) where
   abbrev r : ℕ
   r = requested.run - 1
 
@@ -71,6 +73,9 @@ module _ (names : Names) (g : Group) (requests : Holder → Bool) (t : TableStat
 
   abbrev reached : List RunState
   reached = settled entered.runs
+
+  abbrev next : TableState
+  next = (rerunning t requested).table
 
   fit : RunsFit t.runs
   fit = (kept_from_sound t s).fit
@@ -167,7 +172,7 @@ module _ (names : Names) (g : Group) (requests : Holder → Bool) (t : TableStat
             let not_yet : has_started h so_far.now ≡ false =
             sym (started_by_own h so_far.now) ∙ ap (has_started h) (sym (own_elsewhere h there.1)) ∙ started_by_own h start ∙ unstarted in
             unbegun_elsewhere t.runs r parked_run h there.0
-            (so_far.unbegun h (arrived_in_it names g requests t.runs whole so_far h came) came not_yet)
+            (so_far.unbegun h (arrived_in_it names g requests t whole so_far h came) came not_yet)
       ]
 
   parked_so_far : (cancels : Holder → Bool) → LawSoFar (is_in reached g) cancels start parked start
@@ -260,11 +265,16 @@ module _ (names : Names) (g : Group) (requests : Holder → Bool) (t : TableStat
           let none : own h before ≡ [] = (last_same (own h before) [] (Move.arrive k) (Move.arrive h) alone).0 in
           true≢false (sym pended ∙ sym (waits_by_own h before) ∙ ap (is_pending h) none)
 
-  agrees_then : Agrees (name_in names reached) start whole
+  same_ids : (h : Holder) → by_id next h ≡ by_id t h
+  same_ids = same_by_id t next s sound_then
+
+  agrees_then : Agrees (name_in names next) start whole
   agrees_then =
-      forgets (name_in names t.runs) (name_in names reached) (is_elsewhere r) so_far.now whole
-      (λ h kept. ap (λ a. names.name a h) (attempt_elsewhere t r x begins.there fit h (is_another r h kept)))
-      (λ h gone. later_is_new names t.runs whole so_far.named (attempt_of reached h) h (too_late h (is_here r h gone)))
+      forgets (name_in names t) (name_in names next) (is_elsewhere r) so_far.now whole
+      (λ h kept. ap₂ names.name (attempt_elsewhere t r x begins.there fit h (is_another r h kept)) (same_ids h))
+      (λ h gone.
+      ap (λ m. own (names.name (attempt_of reached h) m) whole) (same_ids h)
+      ∙ later_is_new names t whole so_far.named (attempt_of reached h) h (too_late h (is_here r h gone)))
       (λ h gone. idle_so_far h (is_here r h gone)) pending_is_newest settled_by_now so_far.agrees
     where
       too_late : (h : Holder) → run_of h ≡ r → attempt_of reached h ≤ attempt_of t.runs h → ⊥
@@ -276,12 +286,12 @@ module _ (names : Names) (g : Group) (requests : Holder → Bool) (t : TableStat
   -- ---- the arrival, and settling
 
   pub again_goes_on : AreRequested names g requests (rerunning t requested) whole
-      → SoFar names g requests reached (whole ++ step_moves names g (rerunning t requested))
+      → SoFar names g requests next (whole ++ step_moves names g (rerunning t requested))
   again_goes_on are_requested =
       let n = Run r in
       let of_it = is_in reached g in
-      let cancels : Holder → Bool = λ h. requests (name_in names reached h) && cancels_in_progress reached h in
-      let requests_now = λ (h : Holder) (e : cancels h ≡ true). (and_parts (requests (name_in names reached h)) (cancels_in_progress reached h) e).1 in
+      let cancels : Holder → Bool = λ h. requests (name_in names next h) && cancels_in_progress reached h in
+      let requests_now = λ (h : Holder) (e : cancels h ≡ true). (and_parts (requests (name_in names next h)) (cancels_in_progress reached h) e).1 in
       let first = arrival_keeps reached g cancels requests_now parked now n (again_fits t.runs r fit)
       (arrives_alone t.runs r x begins.there fit begins.ended) (again_comes t.runs r x begins.there fit begins.ended)
       (again_waits t.runs r x begins.there) (beside_again t.runs r s.one_of_each_group)
@@ -290,10 +300,10 @@ module _ (names : Names) (g : Group) (requests : Holder → Bool) (t : TableStat
       let rest = settled_keeps reached g cancels requests_now (remaining_phases entered.runs) entered.runs (entered_fits t r x begins.there fit)
       (entered_again_one_each t r requested.attempt fit begins s.one_of_each_group) (grows_not reached) start (start ++ of_group of_it entered.moves)
       first in
-      after_step names g reached cancels requests start whole (moves_in reached g (rerunning t requested).moves) agrees_then
-      (still_named names t.runs reached whole (again_rises t r x begins.there fit) so_far.named) so_far.law
+      after_step names g next sound_then cancels requests start whole (moves_in reached g (rerunning t requested).moves) agrees_then
+      (still_named names t next whole same_ids (again_rises t r x begins.there fit) so_far.named) so_far.law
       (λ k arrives new requests_it.
-      and_from (requests (name_in names reached k)) (cancels_in_progress reached k) requests_it (are_requested k arrives new requests_it))
+      and_from (requests (name_in names next k)) (cancels_in_progress reached k) requests_it (are_requested k arrives new requests_it))
       (subst (LawSoFar of_it cancels start reached)
       (append_assoc start (of_group of_it entered.moves) (of_group of_it (settling entered.runs).moves)
       ∙ ap (λ ms. start ++ ms) (sym (of_group_on of_it entered.moves (settling entered.runs).moves))) rest)

@@ -27,14 +27,14 @@ use Rattle.table_model.specs.declared.holder.Holder.TheVariants.{Run, Leg}
 abbrev pub moves_in : List RunState → Group → List Move → List Move
 moves_in runs g moves = filter (λ m. is_in runs g (holder_of m)) moves
 
--- the same moves, with each holder by its name in these runs
-abbrev pub named_moves : Names → List RunState → List Move → List Move
-named_moves names runs moves = map (renamed (name_in names runs)) moves
+-- the same moves, with each holder by its name in the table
+abbrev pub named_moves : Names → TableState → List Move → List Move
+named_moves names t moves = map (renamed (name_in names t)) moves
 
--- The moves of a step in a group, by the groups and attempts of the table after the step. A run that begins again is at its next attempt
--- before it makes a move.
+-- The moves of a step in a group, by the groups, ids and attempts of the table after the step. A run that begins again is at its next
+-- attempt before it makes a move.
 abbrev pub step_moves : Names → Group → Step → List Move
-step_moves names g s = named_moves names s.table.runs (moves_in s.table.runs g s.moves)
+step_moves names g s = named_moves names s.table (moves_in s.table.runs g s.moves)
 
 abbrev pub group_moves : Names → Group → TableState → List Command → List Move
 group_moves names g t [] = []
@@ -42,7 +42,7 @@ group_moves names g t (c ∷ cs) = step_moves names g (stepped t c) ++ group_mov
 
 -- the base moves of the holders that the group already has
 abbrev pub first_moves : Names → Group → TableState → List Move
-first_moves names g t = named_moves names t.runs (base_moves (group_state t.runs g))
+first_moves names g t = named_moves names t (base_moves (group_state t.runs g))
 
 abbrev pub all_moves : Names → Group → TableState → List Command → List Move
 all_moves names g t cs = first_moves names g t ++ group_moves names g t cs
@@ -53,7 +53,7 @@ all_moves names g t cs = first_moves names g t ++ group_moves names g t cs
 abbrev pub requests_in : Names → Group → Step → Holder → Option Bool
 requests_in names g s n =
     option_map (cancels_in_progress s.table.runs)
-    (find (λ h. same_holder n (name_in names s.table.runs h)) (filter_map arrival_of (moves_in s.table.runs g s.moves)))
+    (find (λ h. same_holder n (name_in names s.table h)) (filter_map arrival_of (moves_in s.table.runs g s.moves)))
 
 -- by the step in which it arrives
 abbrev pub requests_by : Names → Group → TableState → List Command → Holder → Bool

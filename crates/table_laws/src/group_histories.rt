@@ -1,6 +1,6 @@
 //! Laws of the groups of a table, over any commands.
 
-ghost use Rattle.std.specs.Prelude.{◌≡◌, ◌≤◌, ℕ, List, [], ◌∷◌, ◌++◌, length, false, true, Some, None};
+ghost use Rattle.std.specs.Prelude.{◌≡◌, ◌≤◌, List, [], ◌∷◌, ◌++◌, length, false, true, Some, None};
 ghost use Rattle.run_plan.specs.declared.command.Command.{Command};
 ghost use Rattle.group_name.specs.Group.{Group};
 ghost use Rattle.table_model.specs.GroupLaw.{has_arrived, has_ended, has_started, next_displaced, was_stopped, Move, KeepsLaw};
@@ -13,7 +13,7 @@ ghost use Rattle.table_model.specs.TableState.{TableState};
 ghost use Rattle.wf_value.specs.declared.outcome.Outcome.{Outcome};
 ghost use Rattle.table_laws.specs.GroupHistories.{IsOf, NeverBegan, all_moves, requests_cancellation};
 ghost use Rattle.table_laws.specs.GroupHolders.{SayWhoHolds};
-ghost use Rattle.table_laws.specs.Names.{Names, attempt_of};
+ghost use Rattle.table_laws.specs.Names.{Names, name_in};
 ghost use Rattle.table_model.specs.declared.holder.Holder.{Holder};
 
 /// Among all runs and legs of the table, at most one is pending and at most one is running in each concurrency group.
@@ -25,9 +25,9 @@ pub fn groups_have_one_holder_of_each_kind()
 {}
 
 /// The law of concurrency groups: from any sound table and over any commands, the moves of each group satisfy it, after the base moves of
-/// the holders that the group already has. Each holder is named with the attempt of its run.
+/// the holders that the group already has. Each holder is named by the id and the attempt of its run.
 /// Promise (Concurrency groups): The moves of each group keep the law over any commands, from any sound table, whichever names are used for
-///   holders and their attempts
+///   holders by the ids and attempts of their runs
 /// By: `table_laws::group_histories::every_group_keeps_its_law`; `table_laws::group_laws::attempts_have_names` (`Names`)
 pub fn every_group_keeps_its_law()
     ensures { (names : Names) (t : TableState) (cs : List Command) (g : Group) → IsSound t
@@ -41,7 +41,7 @@ pub fn every_group_keeps_its_law()
 /// By: `table_laws::group_histories::the_moves_say_who_holds_each_group`; `step_laws::carry_out`, `holders` (`SayWhoHolds`)
 pub fn the_moves_say_who_holds_each_group()
     ensures { (names : Names) (t : TableState) (cs : List Command) (g : Group) → IsSound t
-        → SayWhoHolds names (after t cs).runs g (all_moves names g t cs) }
+        → SayWhoHolds names (after t cs) g (all_moves names g t cs) }
 {}
 
 /// Between the start of a holder and its end no other holder of its group starts.
@@ -53,18 +53,16 @@ pub fn nobody_starts_before_the_holder_has_ended()
         → IsSound t → all_moves names g t cs ≡ before ++ Move.start h ∷ (between ++ Move.start k ∷ after_it) → has_ended h between ≡ true }
 {}
 
-/// A pending holder that a newcomer displaces never begins in that attempt of its run. While the run is at this attempt, a displaced run
-/// ends with all its jobs cancelled and has no leg, and a displaced leg ends as cancelled. In no table on the way in which the run is at
-/// this attempt does a leg of the holder have a lease.
+/// A pending holder that a newcomer displaces never begins in that attempt of its run: in every table on the way in which the holder has
+/// the name that was displaced, a displaced run has ended with all its jobs cancelled and has no leg, and a displaced leg has ended as
+/// cancelled. In no such table does a leg of the holder have a lease.
 pub fn displaced_holders_never_begin()
     ensures cancelled { (names : Names) (t : TableState) (cs : List Command) (g : Group) (before after_it : List Move) (newcomer h : Holder)
-        (attempt : ℕ) → IsSound t → all_moves names g t cs ≡ before ++ Move.arrive newcomer ∷ after_it
-        → next_displaced before ≡ Some (names.name attempt h) → attempt_of (after t cs).runs h ≡ attempt
-        → NeverBegan (after t cs).runs h }
+        → IsSound t → all_moves names g t cs ≡ before ++ Move.arrive newcomer ∷ after_it
+        → next_displaced before ≡ Some (name_in names (after t cs) h) → NeverBegan (after t cs).runs h }
     ensures unleased { (names : Names) (t : TableState) (first second : List Command) (g : Group) (before after_it : List Move)
-        (newcomer h : Holder) (attempt : ℕ) → IsSound t
-        → all_moves names g t (first ++ second) ≡ before ++ Move.arrive newcomer ∷ after_it
-        → next_displaced before ≡ Some (names.name attempt h) → attempt_of (after t first).runs h ≡ attempt
+        (newcomer h : Holder) → IsSound t → all_moves names g t (first ++ second) ≡ before ++ Move.arrive newcomer ∷ after_it
+        → next_displaced before ≡ Some (name_in names (after t first) h)
         → (p : LegSite) (leg : LegState) → IsOf h p → leg_at (after t first).runs p ≡ Some leg → leg.lease ≡ None }
 {}
 

@@ -12,5 +12,5 @@ returns-clause-law c = λ names g. group_keeps_law names c.args.table.now c.args
 pub returns-clause-holders : goal.returns-clause-holders
 returns-clause-holders c = λ names g.
     let moves = all_moves names g c.args.table.now c.args.commands.now in
-    subst (λ (t : TableState). SayWhoHolds names t.runs g moves) (sym c.in_ok-take_steps.ensures.after)
+    subst (λ (t : TableState). SayWhoHolds names t g moves) (sym c.in_ok-take_steps.ensures.after)
     (moves_say_who_holds names c.args.table.now c.args.commands.now g c.last_lease.ensures.sound)
