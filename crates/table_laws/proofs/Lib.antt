@@ -40,6 +40,7 @@ pub mod OnlyStops
 pub mod OwnMoves
 pub mod Packed
 pub mod Parked
+pub mod PendingSoFar
 pub mod PlacedOne
 pub mod ReachedTables
 pub mod Remembered

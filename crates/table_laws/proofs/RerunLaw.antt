@@ -1,22 +1,20 @@
 -- The step in which a run begins again preserves the law of every group. The moves of its attempt before are dropped, and it arrives as a
 -- holder with another name.
-use Rattle.std.specs.Prelude.{◌≡◌, ℕ, ◌+◌, ◌-◌, ◌≤◌, List, [], ◌∷◌, ◌++◌, ◌&&◌, ◌||◌, not, Bool, true, false, Some, None, if◌then◌else◌}
+use Rattle.std.specs.Prelude.{◌≡◌, ℕ, ◌+◌, ◌-◌, ◌≤◌, List, [], ◌++◌, ◌&&◌, Bool, true, false, Some, None}
 use Rattle.std.specs.Prelude.{refl}
 use Rattle.std.specs.Option.{option_map_or}
 use Rattle.std.proofs.Common.{arith, ap, ap₂, inl, inr, sym, ◌∙◌, subst, append_assoc}
 use Rattle.std.proofs.lemmas.Bool.{and_from, and_parts, false≢true, true≢false}
 use Rattle.std.proofs.lemmas.List.{append-nil}
-use Rattle.std.proofs.lemmas.Option.{same_Some}
 use Rattle.group_name.specs.Group.{Group, same_group}
 use Rattle.run_plan.specs.declared.command.Attempt.{Attempt}
 use Rattle.table_model.specs.Groups.{cancels_in_progress, is_in, waits}
-use Rattle.table_model.specs.GroupLaw.{has_arrived, has_ended, has_started, is_pending, is_in_progress, latest, next_displaced, same_holder}
+use Rattle.table_model.specs.GroupLaw.{has_arrived, has_started, latest}
 use Rattle.table_model.specs.Holders.{run_of}
 use Rattle.table_model.specs.GroupLaw.{Move, Transition}
 use Rattle.table_model.specs.Runs.{again, with_run, RunState}
 use Rattle.table_model.specs.Settling.{remaining_phases, settled, settling}
 use Rattle.table_model.proofs.RunFits.{RunsFit}
-use Rattle.settling_laws.proofs.ArrivalKeeps.{itself, one_or_another}
 use Rattle.settling_laws.proofs.OneEach.{IsOneOf, one_that_waits}
 use Rattle.table_model.specs.Sound.{IsSound}
 use Rattle.table_model.specs.Step.{entered_again, rerunning}
@@ -29,29 +27,21 @@ use Rattle.table_laws.specs.Names.{Names, attempt_of, by_id, name_in}
 use Rattle.table_laws.proofs.Agrees.{Agrees}
 use Rattle.table_laws.proofs.AttemptNames.{again_grows, again_rises, attempt_before, attempt_elsewhere, attempt_then, entered_fits, entry_grows}
 use Rattle.table_laws.proofs.Forgotten.{forgets, latest_kept}
-use Rattle.table_laws.proofs.GroupSaid.{latest_on, pending_on}
 use Rattle.table_laws.proofs.GroupsKept.{grows_not, is_in_kept}
 use Rattle.table_laws.proofs.HistoryNames.{later_is_new, still_named}
 use Rattle.table_laws.proofs.HistoryStep.{AreRequested, SoFar, after_step, arrived_in_it}
 use Rattle.table_laws.proofs.HolderIds.{same_by_id}
-use Rattle.table_laws.proofs.HolderStatus.{Fits, Status, fits_pending, fits_in_progress, holds_as, is_waiting, status, waiting_is, waits_as}
+use Rattle.table_laws.proofs.HolderStatus.{Fits, Status, is_waiting, status, waits_as}
 use Rattle.table_laws.proofs.LawSoFar.{LawSoFar, unseen_is_unmoved}
-use Rattle.table_laws.proofs.NamedMoves.{displaced_is, last_same, pending_unmoved}
-use Rattle.table_laws.proofs.OwnMoves.{arrived_by_own, of_group, of_group_on, own, own_of_another, own_of_group, own_on, runs_by_own, started_by_own}
-use Rattle.table_laws.proofs.OwnMoves.{waits_by_own}
+use Rattle.table_laws.proofs.OwnMoves.{arrived_by_own, of_group, of_group_on, own, own_of_another, own_of_group, started_by_own}
 use Rattle.table_laws.proofs.Parked.{again_comes, again_still, arrives_alone, here_or_elsewhere, idle_before, is_another, is_elsewhere, is_here}
 use Rattle.table_laws.proofs.Parked.{one_elsewhere, parked_is_over, parked_run, status_elsewhere, unbegun_elsewhere}
+use Rattle.table_laws.proofs.PendingSoFar.{idle_so_far, pending_is_newest, settled_by_now}
 use Rattle.table_laws.proofs.RulesLaw.{arrival_keeps, settled_keeps}
 use Rattle.table_laws.proofs.SameGroups.{there_or_not}
 use Rattle.table_laws.proofs.Unbegun.{Unbegun}
 use Rattle.table_model.specs.declared.holder.Holder.{Holder}
 use Rattle.table_model.specs.declared.holder.Holder.TheVariants.{Run}
-
-still_waits : (a s e : Bool) → (a && (not s && not e)) ≡ true → ((a || true) && (not (s || false) && not (e || false))) ≡ true
-still_waits false s e is = cc
-still_waits true true e is = cc
-still_waits true false true is = cc
-still_waits true false false is = refl
 
 module _ (names : Names) (g : Group) (requests : Holder → Bool) (t : TableState) (requested : Attempt) (s : IsSound t)
     (begins : BeginsAgain t.runs (requested.run - 1) requested.attempt) (whole : List Move) (so_far : SoFar names g requests t whole)
@@ -189,82 +179,6 @@ module _ (names : Names) (g : Group) (requests : Holder → Bool) (t : TableStat
 
   -- ---- the names
 
-  idle_so_far : (h : Holder) → run_of h ≡ r → (is_in_progress h so_far.now ≡ false) × (is_pending h so_far.now ≡ false)
-  idle_so_far h same =
-      let idle = idle_before t.runs r x begins.there fit begins.ended h same in
-      elim (is_in t.runs g h) as
-      (λ b. is_in t.runs g h ≡ b → (is_in_progress h so_far.now ≡ false) × (is_pending h so_far.now ≡ false)) [
-        | true ↦ λ is. (
-          fits_in_progress (status t.runs h) h so_far.now (so_far.each h is) ∙ sym (holds_as t.runs h) ∙ idle.0,
-          fits_pending (status t.runs h) h so_far.now (so_far.each h is) ∙ sym (waits_as t.runs h) ∙ idle.1,
-        )
-        | false ↦ λ isnt. (
-          sym (runs_by_own h so_far.now) ∙ ap (is_in_progress h) (so_far.others h isnt),
-          sym (waits_by_own h so_far.now) ∙ ap (is_pending h) (so_far.others h isnt),
-        )
-      ] refl
-
-  pending_in_it : (h : Holder) → is_pending h so_far.now ≡ true → (is_in t.runs g h ≡ true) × (waits t.runs h ≡ true)
-  pending_in_it h pends =
-      elim (is_in t.runs g h) as (λ b. is_in t.runs g h ≡ b → (b ≡ true) × (waits t.runs h ≡ true)) [
-        | true ↦ λ is. (refl, waits_as t.runs h ∙ sym (fits_pending (status t.runs h) h so_far.now (so_far.each h is)) ∙ pends)
-        | false ↦ λ isnt.
-            absurd (true≢false (sym pends ∙ sym (waits_by_own h so_far.now) ∙ ap (is_pending h) (so_far.others h isnt)))
-      ] refl
-
-  pending_is_newest : (h : Holder) → is_pending h so_far.now ≡ true → latest so_far.now ≡ Some h
-  pending_is_newest h pends = let its = pending_in_it h pends in so_far.newest h its.0 its.1
-
-  -- a pending holder has arrived and has made no other move
-  pending_moves : (h : Holder) → is_pending h so_far.now ≡ true → own h so_far.now ≡ Move.arrive h ∷ []
-  pending_moves h pends =
-      let its = pending_in_it h pends in
-      subst (λ (st : Status). Fits st h (own h so_far.now)) (waiting_is (status t.runs h) (sym (waits_as t.runs h) ∙ its.1))
-      (so_far.each h its.0)
-
-  pending_kept : (h : Holder) → is_pending h start ≡ true → (is_elsewhere r h ≡ true) × (is_pending h so_far.now ≡ true)
-  pending_kept h pends =
-      elim (here_or_elsewhere r h) [
-        | inl here ↦ absurd (true≢false (sym pends ∙ sym (waits_by_own h start) ∙ ap (is_pending h) (own_here h here.1)))
-        | inr there ↦ (
-          there.1,
-          sym (waits_by_own h so_far.now) ∙ ap (is_pending h) (sym (own_elsewhere h there.1)) ∙ waits_by_own h start ∙ pends,
-        )
-      ]
-
-  -- an arrival that displaces is not the last of them
-  settled_by_now : (before : List Move) (k h : Holder) → start ≡ before ++ Move.arrive k ∷ [] → next_displaced before ≡ Some h → ⊥
-  settled_by_now before k h split displaced =
-      let was = displaced_is before h displaced in
-      elim (one_or_another h k) [
-        | inr apart ↦ apart.0 (of_another apart.1 was.1)
-        | inl same ↦ of_itself same was.1
-      ]
-    where
-      -- if they differ, the displaced holder would still be the latest arrival
-      of_another : same_holder h k ≡ false → is_pending h before ≡ true → h ≡ k
-      of_another apart pended =
-          let pends : is_pending h start ≡ true = ap (is_pending h) split ∙ pending_unmoved h before (Move.arrive k) apart ∙ pended in
-          let kept = pending_kept h pends in
-          let last : latest start ≡ Some h =
-          latest_kept (is_elsewhere r) so_far.now None None h kept.0 (λ e. e) (pending_is_newest h kept.1) in
-          same_Some h k (sym last ∙ ap latest split ∙ latest_on before (Move.arrive k ∷ []))
-
-      -- if they are the same, the holder would arrive twice
-      of_itself : h ≡ k → is_pending h before ≡ true → ⊥
-      of_itself same pended =
-          let its : same_holder h k ≡ true = ap (same_holder h) (sym same) ∙ itself h in
-          let pends : is_pending h start ≡ true =
-          ap (is_pending h) split
-          ∙ pending_on h before (Move.arrive k ∷ []) true false false (ap (λ b. b || false) its) refl refl
-          ∙ still_waits (has_arrived h before) (has_started h before) (has_ended h before) pended in
-          let kept = pending_kept h pends in
-          let alone : own h before ++ Move.arrive k ∷ [] ≡ [] ++ Move.arrive h ∷ [] =
-          ap (λ ms. own h before ++ ms) (sym (ap (λ b. if b then Move.arrive k ∷ [] else []) its))
-          ∙ sym (own_on h before (Move.arrive k ∷ [])) ∙ ap (own h) (sym split) ∙ own_elsewhere h kept.0 ∙ pending_moves h kept.1 in
-          let none : own h before ≡ [] = (last_same (own h before) [] (Move.arrive k) (Move.arrive h) alone).0 in
-          true≢false (sym pended ∙ sym (waits_by_own h before) ∙ ap (is_pending h) none)
-
   same_ids : (h : Holder) → by_id next h ≡ by_id t h
   same_ids = same_by_id t next s sound_then
 
@@ -275,7 +189,9 @@ module _ (names : Names) (g : Group) (requests : Holder → Bool) (t : TableStat
       (λ h gone.
       ap (λ m. own (names.name (attempt_of reached h) m) whole) (same_ids h)
       ∙ later_is_new names t whole so_far.named (attempt_of reached h) h (too_late h (is_here r h gone)))
-      (λ h gone. idle_so_far h (is_here r h gone)) pending_is_newest settled_by_now so_far.agrees
+      (λ h gone.
+      idle_so_far names g requests t whole so_far h (idle_before t.runs r x begins.there fit begins.ended h (is_here r h gone)))
+      (pending_is_newest names g requests t whole so_far) (settled_by_now names g requests t whole so_far (is_elsewhere r)) so_far.agrees
     where
       too_late : (h : Holder) → run_of h ≡ r → attempt_of reached h ≤ attempt_of t.runs h → ⊥
       too_late h same le =
