@@ -26,6 +26,7 @@ pub mod HistoryStep
 pub mod HistoryWords
 pub mod HolderIds
 pub mod HolderStatus
+pub mod HoldersMoved
 pub mod HoldersOnce
 pub mod HoldersSaid
 pub mod KeptReplies
@@ -49,6 +50,7 @@ pub mod RerunLaw
 pub mod RoomMade
 pub mod RulesDecided
 pub mod RulesLaw
+pub mod RunsDropped
 pub mod RunsStay
 pub mod SameGroups
 pub mod SkipsDue
@@ -56,4 +58,5 @@ pub mod StepsLaw
 pub mod StepsStay
 pub mod StopDecided
 pub mod StopsTold
+pub mod Through
 pub mod Unbegun

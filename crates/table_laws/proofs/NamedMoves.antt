@@ -135,7 +135,7 @@ module _ (name : Holder → Holder) (one : IsInjective name) where
         | false ↦ λ isnt. refl
       ] refl
 
-  same_named : (h k : Holder) → same_holder (name h) (name k) ≡ same_holder h k
+  pub same_named : (h k : Holder) → same_holder (name h) (name k) ≡ same_holder h k
   same_named h k = same_by h k (same_holder h k) refl
 
   arrival_named : (h : Holder) (m : Move) → is_the (arrival_of (renamed name m)) (name h) ≡ is_the (arrival_of m) h
@@ -166,7 +166,7 @@ module _ (name : Holder → Holder) (one : IsInjective name) where
   end_named h (Move.stop k) = refl
   end_named h (Move.end_with r k) = same_named h k
 
-  holder_named : (m : Move) → holder_of (renamed name m) ≡ name (holder_of m)
+  pub holder_named : (m : Move) → holder_of (renamed name m) ≡ name (holder_of m)
   holder_named (Move.arrive k) = refl
   holder_named (Move.start k) = refl
   holder_named (Move.stop k) = refl
@@ -297,7 +297,7 @@ module _ (name : Holder → Holder) (one : IsInjective name) where
           | false ↦ λ other. was (sym (unmoved other) ∙ is)
         ] refl
 
-    agrees_on : (m : Move) → Agrees name (now ++ m ∷ []) (whole ++ renamed name m ∷ [])
+    pub agrees_on : (m : Move) → Agrees name (now ++ m ∷ []) (whole ++ renamed name m ∷ [])
     agrees_on m =
         let next = renamed name m ∷ [] in
         record {
