@@ -1,6 +1,6 @@
 -- Runs are never removed, and each keeps what was admitted. So the run that a delivery made is found at its index in every later table.
-use Rattle.std.proofs.Common.{◌≡◌, ℕ, ◌+◌, ◌-◌, ◌<◌, ◌≤◌, Bool, true, false, List, [], ◌∷◌, ◌++◌, length, map, refl, sym, ◌∙◌, ap}
-use Rattle.std.proofs.Common.{append_assoc, length-append, arith, cond, not}
+use Rattle.std.proofs.Common.{◌≡◌, ℕ, ◌+◌, ◌<◌, ◌≤◌, Bool, true, false, List, [], ◌∷◌, ◌++◌, length, map, refl, sym, ◌∙◌, ap}
+use Rattle.std.proofs.Common.{length-append, arith, cond, not}
 use Rattle.std.specs.Prelude.{Option, Some, None, option_map, if◌then◌else◌, nat_le, nat_lt}
 use Rattle.std.specs.List.{position, prefix_len}
 use Rattle.std.specs.Option.{option_map_or, option_or}
@@ -13,15 +13,14 @@ use Rattle.definitions.specs.SmallText.{Admitted}
 use Rattle.run_plan.specs.declared.command.Command.{Command}
 use Rattle.run_plan.specs.declared.command.Command.TheVariants as command
 use Rattle.run_plan.specs.declared.reply.Reply.TheVariants as reply
-use Rattle.table_model.specs.Step.{after, admitting, entered_again, rerun_answer, rerunning, refused, step, stepped, unchanged}
+use Rattle.table_model.specs.Step.{after, admitting, refused, step, stepped, unchanged}
 use Rattle.table_model.specs.TableState.{Step, TableState}
-use Rattle.table_model.specs.Runs.{with_run, again, is_delivered_as, RunState}
+use Rattle.table_model.specs.Runs.{again, is_delivered_as, RunState}
 use Rattle.table_model.specs.LegContext.{events}
-use Rattle.table_model.specs.Settling.{settled}
+use Rattle.table_model.proofs.Identity.{Identity}
 use Rattle.table_model.proofs.Optional.{if_some}
-use Rattle.table_laws.proofs.RunsStay.{IsOfCourse, arrived_stays, run_stays, settled_stays}
-use Rattle.table_laws.proofs.StepsStay.{answered, entered_stays, keeps_all, keeps_itself, step_stays}
-use Rattle.table_model.specs.declared.holder.Holder.TheVariants.{Run}
+use Rattle.table_laws.proofs.RunsStay.{IsOfCourse}
+use Rattle.table_laws.proofs.StepsStay.{after_stays, any_step_stays, entered_stays}
 
 -- ---- steps
 
@@ -30,7 +29,7 @@ abbrev event_of : RunState → Admitted
 event_of x = x.admitted
 
 its_event : IsOfCourse event_of
-its_event x y event attempt = event
+its_event x y same attempt = ap (λ (i : Identity). i.admitted) same
 
 -- the runs of the first table are a prefix of those of the second
 abbrev pub Keeps : TableState → TableState → Type 0
@@ -39,26 +38,11 @@ Keeps t next = (more : List Admitted) × (events next.runs ≡ events t.runs ++ 
 entered_events : (t : TableState) (event : Admitted) → events (admitting t event).table.runs ≡ events t.runs ++ event ∷ []
 entered_events t event = entered_stays event_of its_event t event
 
--- a run that begins again stays, with its event
-begins : (t : TableState) (r : ℕ) → events (settled (entered_again t r).runs) ≡ events t.runs
-begins t r =
-    settled_stays event_of its_event (entered_again t r).runs ∙ arrived_stays event_of its_event (Run r) (with_run r again t.runs)
-    ∙ run_stays event_of its_event r again t.runs (λ x. refl)
-
 pub step_keeps : (t : TableState) (c : Command) → Keeps t (stepped t c).table
-step_keeps t (command.Rerun requested) =
-    answered event_of its_event t (rerun_answer t requested) (rerunning t requested)
-    (keeps_all event_of its_event t (rerunning t requested).table (begins t (requested.run - 1)))
-step_keeps t c = step_stays event_of its_event t c tt
+step_keeps t c = any_step_stays event_of its_event (λ x. refl) t c
 
 pub after_keeps : (t : TableState) (cs : List Command) → Keeps t (after t cs)
-after_keeps t [] = keeps_itself event_of its_event t
-after_keeps t (c ∷ cs) =
-    let first = step_keeps t c in
-    let others = after_keeps (stepped t c).table cs in (
-      first.0 ++ others.0,
-      others.1 ∙ ap (λ (l : List Admitted). l ++ others.0) first.1 ∙ append_assoc (events t.runs) first.0 others.0,
-    )
+after_keeps t cs = after_stays event_of its_event (λ x. refl) t cs
 
 -- ---- the index of a delivery
 
@@ -127,7 +111,7 @@ place_stays delivery t next i keeps is =
 
 -- ---- the answer to an admission
 
-abbrev admitted_by : TableState → Admitted → Option ℕ → Bool → Step
+abbrev pub admitted_by : TableState → Admitted → Option ℕ → Bool → Step
 admitted_by t event place full =
     option_map_or (unchanged t) (option_or (option_map (λ i. reply.Created (i + 1)) place)
     (if full then Some (refused LastCounter) else None))

@@ -29,6 +29,7 @@ pub mod HolderStatus
 pub mod HoldersMoved
 pub mod HoldersOnce
 pub mod HoldersSaid
+pub mod IdsGoOn
 pub mod KeptReplies
 pub mod KnownAttempts
 pub mod LawSoFar

@@ -1,4 +1,4 @@
--- Runs keep what was admitted and their attempt under every change within an attempt: a change of one run, a stop, an arrival in a group, a
+-- Runs keep their identity and their attempt under every change within an attempt: a change of one run, a stop, an arrival in a group, a
 -- rule, and settling.
 use Rattle.std.proofs.Common.{◌≡◌, ℕ, zero, suc, true, false, List, [], ◌∷◌, map, refl, ◌∙◌, ap}
 use Rattle.std.specs.Prelude.{Some, None, if◌then◌else◌}
@@ -19,6 +19,7 @@ use Rattle.table_model.specs.declared.phases.LegPhase.TheVariants as leg
 use Rattle.table_model.specs.declared.phases.RunPhase.{RunPhase}
 use Rattle.table_model.specs.declared.phases.RunPhase.TheVariants as run
 use Rattle.table_model.specs.declared.sites.RuleSite.{RuleSite}
+use Rattle.table_model.proofs.Identity.{identity_of}
 use Rattle.table_model.proofs.Optional.{from_and_then}
 use Rattle.settling_laws.proofs.EachRule.{by_rule}
 use Rattle.table_model.specs.declared.holder.Holder.{Holder}
@@ -26,7 +27,7 @@ use Rattle.table_model.specs.declared.holder.Holder.TheVariants.{Run, Leg}
 
 -- the value read from a run depends only on these two
 abbrev pub IsOfCourse : {X : Type 0} → (RunState → X) → Type 0
-IsOfCourse read = (x y : RunState) → y.admitted ≡ x.admitted → y.attempt ≡ x.attempt → read y ≡ read x
+IsOfCourse read = (x y : RunState) → identity_of y ≡ identity_of x → y.attempt ≡ x.attempt → read y ≡ read x
 
 module _ {X : Type 0} (read : RunState → X) (of_course : IsOfCourse read) where
   abbrev reads : List RunState → List X

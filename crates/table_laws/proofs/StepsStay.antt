@@ -1,6 +1,6 @@
--- What each step except a re-run keeps about the runs: each run keeps its index, what was admitted for it, and its attempt. New runs are
--- added at the end.
-use Rattle.std.proofs.Common.{◌≡◌, ℕ, ◌+◌, ◌-◌, List, [], ◌∷◌, ◌++◌, length, map, refl, sym, ◌∙◌}
+-- What each step keeps about the runs: each run keeps its index, its identity and, but in a re-run, its attempt. New runs are added at the
+-- end.
+use Rattle.std.proofs.Common.{◌≡◌, ℕ, ◌+◌, ◌-◌, List, [], ◌∷◌, ◌++◌, length, map, refl, sym, ap, ◌∙◌, append_assoc}
 use Rattle.std.specs.Prelude.{Option, Some, None}
 use Rattle.std.specs.Option.{option_map_or}
 use Rattle.std.proofs.lemmas.List.{append-nil, map-append}
@@ -13,13 +13,13 @@ use Rattle.run_plan.specs.declared.command.Command.TheVariants as command
 use Rattle.run_plan.specs.declared.reply.Reply.{Reply}
 use Rattle.table_model.specs.Fitting.{first_fit}
 use Rattle.table_model.specs.LegContext.{next_run}
-use Rattle.table_model.specs.Runs.{leased_leg, with_leg, LegState, RunState}
+use Rattle.table_model.specs.Runs.{again, leased_leg, with_leg, with_run, LegState, RunState}
 use Rattle.table_model.specs.Settling.{settled}
 use Rattle.table_model.specs.Stops.{with_ended, stop_holder, outcome_of_loss}
-use Rattle.table_model.specs.Step.{admission_answer, admitting, cancel_answer, cancelling, claim_answer, claiming, entered}
-use Rattle.table_model.specs.Step.{leasing, losing, lost, refused, released, report_answer, reporting, serving_nothing, stepped, unchanged}
+use Rattle.table_model.specs.Step.{after, admission_answer, admitting, cancel_answer, cancelling, claim_answer, claiming, entered, entered_again}
+use Rattle.table_model.specs.Step.{leasing, losing, lost, refused, released, report_answer, rerun_answer, rerunning, reporting, serving_nothing, stepped, unchanged}
 use Rattle.table_model.specs.TableState.{Step, TableState, runner_named}
-use Rattle.table_laws.proofs.RunsStay.{IsOfCourse, arrived_stays, ended_stays, leg_stays, settled_stays, stop_stays}
+use Rattle.table_laws.proofs.RunsStay.{IsOfCourse, arrived_stays, ended_stays, leg_stays, run_stays, settled_stays, stop_stays}
 use Rattle.table_model.specs.declared.holder.Holder.TheVariants.{Run}
 
 abbrev pub IsNoRerun : Command → Type 0
@@ -96,3 +96,26 @@ module _ {X : Type 0} (read : RunState → X) (of_course : IsOfCourse read) wher
   step_stays t (command.Fetch id) other = keeps_itself t
   step_stays t (command.Look id) other = keeps_itself t
   step_stays t (command.Rerun requested) other = absurd other
+
+  -- ---- what a run that begins again keeps too
+
+  module _ (again_same : (x : RunState) → read (again x) ≡ read x) where
+    begins : (t : TableState) (r : ℕ) → reads (settled (entered_again t r).runs) ≡ reads t.runs
+    begins t r =
+        settled_stays read of_course (entered_again t r).runs ∙ arrived_stays read of_course (Run r) (with_run r again t.runs)
+        ∙ run_stays read of_course r again t.runs again_same
+
+    pub any_step_stays : (t : TableState) (c : Command) → Keeps t (stepped t c).table
+    any_step_stays t (command.Rerun requested) =
+        answered t (rerun_answer t requested) (rerunning t requested)
+        (keeps_all t (rerunning t requested).table (begins t (requested.run - 1)))
+    any_step_stays t c = step_stays t c tt
+
+    pub after_stays : (t : TableState) (cs : List Command) → Keeps t (after t cs)
+    after_stays t [] = keeps_itself t
+    after_stays t (c ∷ cs) =
+        let first = any_step_stays t c in
+        let others = after_stays (stepped t c).table cs in (
+          first.0 ++ others.0,
+          others.1 ∙ ap (λ (l : List X). l ++ others.0) first.1 ∙ append_assoc (reads t.runs) first.0 others.0,
+        )

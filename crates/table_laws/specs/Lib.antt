@@ -6,4 +6,5 @@ pub mod GroupHolders
 pub mod GroupLawTest
 pub mod Names
 pub mod Remembered
+pub mod RunIds
 pub mod Skips

@@ -1,6 +1,6 @@
 //! Laws of steps, and of what commands lead to.
 
-ghost use Rattle.std.specs.Prelude.{◌≡◌, ℕ, List, Some};
+ghost use Rattle.std.specs.Prelude.{◌≡◌, ◌≤◌, ◌⊎◌, ℕ, List, Some};
 ghost use Rattle.definitions.specs.SmallText.{Admitted};
 ghost use Rattle.run_plan.specs.declared.command.Attempt.{Attempt};
 ghost use Rattle.run_plan.specs.declared.command.Command.{Command};
@@ -15,6 +15,7 @@ ghost use Rattle.table_model.specs.TableState.{TableState};
 ghost use Rattle.table_laws.specs.ExactlyOnce.{HasNumber, HaveNoLaterNumber, IsRefused};
 ghost use Rattle.table_laws.specs.Remembered.{AreNoLaterNumbers, AreNoOtherAttempts, IsNoLaterNumber, IsNoOtherAttempt, KnowsAttempt};
 ghost use Rattle.table_laws.specs.Remembered.{KnowsDelivery, LastCommandIs};
+ghost use Rattle.table_laws.specs.RunIds.{HasRun, IsNextRun, last_id, runs_so_far};
 ghost use Rattle.table_laws.specs.Answered.{WasAnswered};
 ghost use Rattle.table_laws.specs.Skips.{SkipsAreDue};
 
@@ -51,6 +52,20 @@ pub fn leases_are_answers_to_claims()
     ensures { (commands : List Command) (p : LegSite) (leg : LegState) (lease : ℕ)
         → leg_at (after empty commands).runs p ≡ Some leg → leg.lease ≡ Some lease
         → WasAnswered commands (replies empty commands) (lease_at (after empty commands).runs p lease) }
+{}
+
+/// Ids and numbers of runs go on: no command lowers the last id or how many runs a workflow has had. An admission that is answered with a run
+/// gave it the next of both, or its delivery was known. A run keeps its id, its number and its event in every later table.
+/// Promise (The table): A new run gets the id after the last one and its workflow's next number, which no command lowers, and it keeps both in
+///   every later table
+/// By: `table_laws::laws::ids_and_numbers_go_on` (`IsNextRun`, `HasRun`)
+pub fn ids_and_numbers_go_on()
+    ensures last_id { (t : TableState) (later : List Command) → last_id t ≤ last_id (after t later) }
+    ensures numbers { (t : TableState) (later : List Command) (event : Admitted) → runs_so_far t event ≤ runs_so_far (after t later) event }
+    ensures made { (t : TableState) (event : Admitted) (id : ℕ) → (stepped t (command.Admit event)).reply ≡ reply.Created id
+        → KnowsDelivery t event.delivery id ⊎ IsNextRun t (stepped t (command.Admit event)).table event id }
+    ensures kept { (t : TableState) (later : List Command) (id number : ℕ) (event : Admitted) → HasRun t id number event
+        → HasRun (after t later) id number event }
 {}
 
 /// A delivery makes one run: an event whose delivery was answered with a run is answered with the same run in every later table, whatever

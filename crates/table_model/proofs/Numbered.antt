@@ -23,11 +23,11 @@ use Rattle.table_model.proofs.RunFits.{admitted_at}
 
 -- ---- counting
 
-count_end : {X : Type 0} (test : X → Bool) (xs : List X) (y : X) → test y ≡ true → count_by test (xs ++ y ∷ []) ≡ count_by test xs + 1
+pub count_end : {X : Type 0} (test : X → Bool) (xs : List X) (y : X) → test y ≡ true → count_by test (xs ++ y ∷ []) ≡ count_by test xs + 1
 count_end test xs y is =
     sum_by-append (λ x. cond (test x) 1 0) xs (y ∷ []) ∙ ap (λ b. count_by test xs + (0 + cond b 1 0)) is
 
-same_as_itself : (e : Admitted) → same_workflow e e ≡ true
+pub same_as_itself : (e : Admitted) → same_workflow e e ≡ true
 same_as_itself e =
     let repo = (bytes_eq-Decides (event_of e.body).repo (event_of e.body).repo).1 refl in
     let path = (bytes_eq-Decides (event_of e.body).path (event_of e.body).path).1 refl in
