@@ -39,12 +39,12 @@ module _ (t : TableState) (r : ℕ) (x : RunState) (there : run_at t.runs r ≡ 
 
   pub attempt_then : (h : Holder) → run_of h ≡ r → attempt_of reached h ≡ x.attempt + 1
   attempt_then h same =
-      again_grows.same_names h ∙ ap (λ (k : ℕ). option_map_or (λ x. x.attempt) (run_at now k) 1) same
+      again_grows.same_attempts h ∙ ap (λ (k : ℕ). option_map_or (λ x. x.attempt) (run_at now k) 1) same
       ∙ ap (λ o. option_map_or (λ x. x.attempt) o 1) (at_changed r again t.runs ∙ ap (option_map again) there)
 
   pub attempt_elsewhere : (h : Holder) → (run_of h ≡ r → ⊥) → attempt_of reached h ≡ attempt_of t.runs h
   attempt_elsewhere h other =
-      again_grows.same_names h ∙ ap (λ o. option_map_or (λ x. x.attempt) o 1) (at_another r again t.runs (run_of h) other)
+      again_grows.same_attempts h ∙ ap (λ o. option_map_or (λ x. x.attempt) o 1) (at_another r again t.runs (run_of h) other)
 
   pub again_rises : (h : Holder) → attempt_of t.runs h ≤ attempt_of reached h
   again_rises h =

@@ -26,22 +26,22 @@ use Rattle.table_model.specs.declared.holder.Holder.{Holder}
 use Rattle.table_model.specs.declared.holder.Holder.TheVariants.{Run, Leg}
 
 -- The earlier runs keep their indices, their identities and their attempts, and finished jobs keep their results. The added runs are at their
--- first attempt, so no holder gets another name.
+-- first attempt, as they were before they were added.
 pub record Grows (runs later : List RunState) : Type 0 where
   pub same_identity : (r : ℕ) (i : Identity) → identity_at runs r ≡ Some i → identity_at later r ≡ Some i
   pub same_attempt : (r n : ℕ) → attempt_at runs r ≡ Some n → attempt_at later r ≡ Some n
   pub keeps_results : (r : ℕ) → KeepsResults runs later r
-  pub same_names : (h : Holder) → attempt_of later h ≡ attempt_of runs h
+  pub same_attempts : (h : Holder) → attempt_of later h ≡ attempt_of runs h
 
 pub grows_not : (runs : List RunState) → Grows runs runs
-grows_not runs = record { same_identity = (λ r i e. e); same_attempt = (λ r n e. e); keeps_results = (λ r j a e. e); same_names = (λ h. refl) }
+grows_not runs = record { same_identity = (λ r i e. e); same_attempt = (λ r n e. e); keeps_results = (λ r j a e. e); same_attempts = (λ h. refl) }
 
 pub grows_on : (a b c : List RunState) → Grows a b → Grows b c → Grows a c
 grows_on a b c f g = record {
   same_identity = (λ r i e. g.same_identity r i (f.same_identity r i e));
   same_attempt = (λ r n e. g.same_attempt r n (f.same_attempt r n e));
   keeps_results = (λ r j x e. g.keeps_results r j x (f.keeps_results r j x e));
-  same_names = (λ h. g.same_names h ∙ f.same_names h);
+  same_attempts = (λ h. g.same_attempts h ∙ f.same_attempts h);
 }
 
 first_or : (o : Option RunState) → option_map_or (λ x. x.attempt) o 1 ≡ unwrap_or (option_map (λ (x : RunState). x.attempt) o) 1
@@ -53,7 +53,7 @@ stays_grows runs next stay = record {
   same_identity = (λ r i e. stay.same_identity r ∙ e);
   same_attempt = (λ r n e. stay.same_attempt r ∙ e);
   keeps_results = stay.keeps_results;
-  same_names = (λ h. first_or (run_at next (run_of h)) ∙ ap (λ o. unwrap_or o 1) (stay.same_attempt (run_of h)) ∙ sym (first_or (run_at runs (run_of h))));
+  same_attempts = (λ h. first_or (run_at next (run_of h)) ∙ ap (λ o. unwrap_or o 1) (stay.same_attempt (run_of h)) ∙ sym (first_or (run_at runs (run_of h))));
 }
 
 pub past_the_end : (runs : List RunState) (r : ℕ) → r ≡ length runs → run_at runs r ≡ None
@@ -78,7 +78,7 @@ new_run_grows runs event = record {
         (past_the_end runs r same)) e)
     | inr other ↦ ap (option_and_then (λ (x : RunState). result_in x j)) (before_the_end runs (next_run runs event) r other) ∙ e
   ]);
-  same_names = (λ h. elim (cases_eq (run_of h) (length runs)) [
+  same_attempts = (λ h. elim (cases_eq (run_of h) (length runs)) [
     | inl same ↦
         ap (λ (k : ℕ). option_map_or (λ x. x.attempt) (run_at (runs ++ next_run runs event ∷ []) k) 1) same
         ∙ ap (λ o. option_map_or (λ x. x.attempt) o 1) (at_the_end runs (next_run runs event))

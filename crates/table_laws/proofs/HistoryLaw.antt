@@ -53,13 +53,13 @@ module _ (names : Names) (g : Group) (requests : Holder → Bool) where
       let made = says.goes_on cancels (λ h e. (and_parts (requests (name_in names s.table h)) (cancels_in_progress next h) e).1) now now
       (by_later_groups cancels g t.runs next (kept_from_sound t sound).fit says.grows now now here) in
       after_step names g s.table sound_then cancels requests now whole (moves_in next g s.moves)
-      (agrees_by (name_in names t) (name_in names s.table) now whole (λ h. ap₂ names.name (says.grows.same_names h) (same_ids h)) so_far.agrees)
+      (agrees_by (name_in names t) (name_in names s.table) now whole (λ h. ap₂ names.name (says.grows.same_attempts h) (same_ids h)) so_far.agrees)
       (still_named names t s.table whole same_ids (λ h. no_lower h says.grows) so_far.named) so_far.law
       (λ k arrives new requested_it.
       and_from (requests (name_in names s.table k)) (cancels_in_progress next k) requested_it (requested k arrives new requested_it)) made
     where
       no_lower : (h : Holder) → Grows t.runs s.table.runs → attempt_of t.runs h ≤ attempt_of s.table.runs h
-      no_lower h grows = let same : attempt_of s.table.runs h ≡ attempt_of t.runs h = grows.same_names h in omega (arith, same)
+      no_lower h grows = let same : attempt_of s.table.runs h ≡ attempt_of t.runs h = grows.same_attempts h in omega (arith, same)
 
   command_goes_on : (t : TableState) (c : Command) (whole : List Move) → IsSound t → AreRequested names g requests (stepped t c) whole
       → SoFar names g requests t whole → SoFar names g requests (stepped t c).table (whole ++ step_moves names g (stepped t c))
@@ -115,7 +115,7 @@ pub attempts_rise : (g : Group) (t : TableState) (c : Command) → IsSound t →
 attempts_rise g t c s h =
     elim (step_says g t c s) [
       | inl says ↦
-          let same : attempt_of (stepped t c).table.runs h ≡ attempt_of t.runs h = says.grows.same_names h in omega (arith, same)
+          let same : attempt_of (stepped t c).table.runs h ≡ attempt_of t.runs h = says.grows.same_attempts h in omega (arith, same)
       | inr runs ↦
           subst (λ (made : Step). attempt_of t.runs h ≤ attempt_of made.table.runs h) (sym runs.is)
           (again_rises t (runs.requested.run - 1) runs.begins.was runs.begins.there (kept_from_sound t s).fit h)
