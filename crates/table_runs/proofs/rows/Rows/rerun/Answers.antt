@@ -5,11 +5,11 @@ use Rattle.table_runs.proofs.NextAttempt.{not_there}
 use Rattle.table_runs.proofs.ToldMore.{no_tickets, none_left}
 use Rattle.table_runs.proofs.rows.Rows.rerun.Goals as goal
 
-pub returns-in-None : goal.returns-in-None
-returns-in-None c =
+pub returns-in_default : goal.returns-in_default
+returns-in_default c =
     let runs = c.args.self.now.runs in
     let r = c.args.r in
-    let none : None ≡ option_map again (run_at runs r) = ap (option_map again) c.in-None.ensures.run in
+    let none : None ≡ option_map again (run_at runs r) = ap (option_map again) c.in_default.ensures.run in
     record {
       again = ap Ok (not_there again runs r none);
       err = tt;

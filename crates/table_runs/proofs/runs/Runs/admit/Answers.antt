@@ -12,7 +12,7 @@ use Rattle.table_runs.proofs.runs.Runs.admit.Goals.{In_ok-run}
 use Rattle.wf_value.proofs.PassedOn.{same_Ok}
 
 -- it is the run that comes next
-is_next : (c : In_ok-run) → c.in_ok-run.run ≡ next_run c.args.self.now c.args.event.now
+is_next : (c : In_ok-run) → c.in_ok-run.run' ≡ next_run c.args.self.now c.args.event.now
 is_next c =
     sym (same_Ok _ _ c.in_ok-run.ensures)
     ∙ ap₂ (λ id number. new_run id number c.args.event.now)
@@ -43,7 +43,7 @@ arrive-requires-clause-number c =
 pub settle_from-requires : goal.settle_from-requires
 settle_from-requires c =
     let runs = c.args.self.now in
-    let run = c.in_ok-run.run in
+    let run = c.in_ok-run.run' in
     let added = subst (λ (x : RunState). RunsAreSound (runs ++ x ∷ [])) (sym (is_next (goal.at.settle_from-requires c).In_ok-run)) c.requires.added in
     let has_arrived = sym (same_Ok _ _ c.in_ok-start.ensures.admitted) in
     record {

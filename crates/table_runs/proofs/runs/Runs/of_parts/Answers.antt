@@ -148,8 +148,8 @@ returns-clause-of c =
           (one_each_seated rows.runs new.entries (all_exact rows book stored empty first mid seats kept now new later still)),
     )
 
-pub returns-in-None-clause-of : goal.returns-in-None-clause-of
-returns-in-None-clause-of c = λ runs are planned one.
+pub returns-in_default-clause-of : goal.returns-in_default-clause-of
+returns-in_default-clause-of c = λ runs are planned one.
     subst
     (λ (o : Option RowState). MatchOption o ((runs : List RunState) → AreRunsOf c.args.parts.now runs → AreAsPlanned runs → ⊥)
-    (λ rows. AreAsPlanned rows.runs)) c.in-None.is c.in_ok-rows.ensures.planned runs are planned
+    (λ rows. AreAsPlanned rows.runs)) c.in_default.is c.in_ok-rows.ensures.planned runs are planned

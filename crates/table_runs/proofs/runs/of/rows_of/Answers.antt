@@ -53,13 +53,13 @@ coming-requires c =
       length-take c.loop-r.r c.args.parts.now,
     )
 
-pub returns-in-None-clause-planned : goal.returns-in-None-clause-planned
-returns-in-None-clause-planned c = λ runs are planned.
+pub returns-in_default-clause-planned : goal.returns-in_default-clause-planned
+returns-in_default-clause-planned c = λ runs are planned.
     let parts = c.args.parts.now in
     let part = c.index-parts-r.result in
     let not : IsPlanned part → ⊥ =
     subst (λ (o : Option RunState). MatchOption o (IsPlanned part → ⊥)
-    (λ run. (run ≡ run_of_parts c.in_ok-coming.coming.id c.in_ok-coming.coming.number part) × IsPlanned part)) c.in-None.is c.in_ok-run.ensures.of in
+    (λ run. (run ≡ run_of_parts c.in_ok-coming.coming.id c.in_ok-coming.coming.number part) × IsPlanned part)) c.in_default.is c.in_ok-run.ensures.of in
     not (planned_there parts runs c.loop-r.r part are planned (read_at parts c.loop-r.r part (omega arith) c.index-parts-r.is))
 
 pub loop-r-preserved : goal.loop-r-preserved
@@ -69,7 +69,8 @@ loop-r-preserved c =
     let runs = c.loop-r.rows.runs in
     let part = c.index-parts-r.result in
     let is = run_of_part part _ _ _ _ c.in-Some.is c.in_ok-run.ensures.of in
-    let run_is = is.0 ∙ ap₂ (λ id number. run_of_parts id number part) c.in_ok-coming.ensures.id c.in_ok-coming.ensures.number in
+    let number = c.in_ok-coming.ensures.number ∙ ap (λ (p : RunParts). number_of_next runs p.admitted) c.part.view_is in
+    let run_is = is.0 ∙ ap₂ (λ id number. run_of_parts id number part) c.in_ok-coming.ensures.id number in
     let at = read_at parts r part (omega arith) c.index-parts-r.is in
     let adds = c.in_ok-add.ensures.adds in
     record {
@@ -83,12 +84,13 @@ loop-r-preserved c =
 pub add-requires-clause-workflow : goal.add-requires-clause-workflow
 add-requires-clause-workflow c =
     let is = run_of_part c.index-parts-r.result _ _ _ _ c.in-Some.is c.in_ok-run.ensures.of in
-    c.in_ok-coming.ensures.workflow ∙ ap (λ (x : RunState). x.admitted) (sym is.0)
+    c.in_ok-coming.ensures.workflow ∙ ap (λ (p : RunParts). p.admitted) c.part.view_is ∙ ap (λ (x : RunState). x.admitted) (sym is.0)
 
 pub add-requires-clause-number : goal.add-requires-clause-number
 add-requires-clause-number c =
     let is = run_of_part c.index-parts-r.result _ _ _ _ c.in-Some.is c.in_ok-run.ensures.of in
-    c.in_ok-coming.ensures.number ∙ ap (λ (x : RunState). number_of_next c.loop-r.rows.runs x.admitted) (sym is.0)
+    c.in_ok-coming.ensures.number ∙ ap (λ (p : RunParts). number_of_next c.loop-r.rows.runs p.admitted) c.part.view_is
+    ∙ ap (λ (x : RunState). number_of_next c.loop-r.rows.runs x.admitted) (sym is.0)
 
 pub returns-clause-runs : goal.returns-clause-runs
 returns-clause-runs c =

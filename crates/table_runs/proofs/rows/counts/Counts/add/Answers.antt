@@ -1,7 +1,8 @@
 use Rattle.std.proofs.Common.{◌≡◌, ap, ◌∙◌}
-use Rattle.std.specs.Prelude.{Bool, Option, Some, cond, false, refl, true}
+use Rattle.std.specs.Prelude.{Bool, ℕ, Option, Some, cond, false, refl, true}
 use Rattle.std.specs.Option.{option_map_or}
 use Rattle.table_model.specs.LegContext.{same_workflow}
+use Rattle.table_runs.specs.inner.Counted.{count_of}
 use Rattle.table_runs.specs.declared.rows.counts.Counted.{Counted}
 use Rattle.table_runs.proofs.rows.counts.Counts.add.Goals as goal
 
@@ -14,3 +15,4 @@ pub returns : goal.returns
 returns c = λ event.
     ap (λ (found : Option Counted). option_map_or (λ (c : Counted). c.runs) found 0) (c.in-Ok.ensures.updates.0 event)
     ∙ chosen (same_workflow c.args.workflow event) _ _
+    ∙ ap (λ (n : ℕ). cond (same_workflow c.args.workflow event) n (count_of c.args.self.now.counts event)) c.get.ensures.value
