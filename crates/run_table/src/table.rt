@@ -103,7 +103,7 @@ impl Table {
         ensures err { OnErr result (self.new ≡ self.old) }
         ensures answers { is_allocation_free (read_only_reply self.old command.now) ≡ true → IsOk result }
     {
-        self.tries_before = self.table_data.runs.tries();
+        self.tries_before = self.table_data.tries();
         self.table_data.step(alloc, command)
     }
 
@@ -122,16 +122,13 @@ impl Table {
         ensures err { OnErr result (self.new ≡ self.old) }
         ensures answers { is_allocation_free (read_only_reply self.old command.now) ≡ true → IsOk result }
     {
-        self.tries_before = self.table_data.runs.tries();
+        self.tries_before = self.table_data.tries();
         self.table_data.step_with_copy(alloc, command)
     }
 
     /// How often the last step tried a settling rule at a site. No contract depends on it.
     pub fn looked(&self) -> u64 {
-        self.table_data
-            .runs
-            .tries()
-            .saturating_sub(self.tries_before)
+        self.table_data.tries().saturating_sub(self.tries_before)
     }
 
     /// The event of the last run, if there is a run. It takes no memory.

@@ -74,6 +74,11 @@ impl TableData {
         self.runners.as_slice()
     }
 
+    /// How often settling has tried a rule at a site. No contract depends on it.
+    pub(crate) fn tries(&self) -> u64 {
+        self.runs.tries()
+    }
+
     /// Carries out a command, applies the settling rules to a fixpoint and returns the reply. The table's refusals, 40
     /// to 45, 48 and 49, are replies. The only error is 50, which leaves the table unchanged. A reply that changes
     /// nothing and holds no text is given even when out of memory.
