@@ -10,6 +10,7 @@ use Rattle.gated_journal.specs.Whole.{RecoversWhole, WholeEither}
 use Rattle.gated_journal.specs.declared.gate.GateState.{GateState}
 use Rattle.gated_journal.specs.declared.gate.GateState.TheVariants.{Open, Closed}
 use Rattle.gated_journal.specs.declared.side.Side.{Side}
+use Rattle.table_model.specs.Parts.{stored_run}
 use Rattle.table_model.specs.Sound.{IsSound}
 use Rattle.stored_tables.specs.Stored.{RunnerParts, stored_runner}
 use Rattle.table_model.specs.TableState.{TableState}
@@ -48,7 +49,8 @@ runners_within : (t : TableState) → length t.runners ≤ text_length t
 runners_within t =
     let rs = map stored_runner t.runners in
     let last = word_bytes t.last_lease in
-    let runs = word_bytes (length t.runs) ++ flat_map run.encoding t.runs in
+    let parts = map stored_run t.runs in
+    let runs = word_bytes (length parts) ++ flat_map run.encoding parts in
     let suffix = word_bytes (length rs) ++ flat_map runner.encoding rs in
     omega (
       arith,
