@@ -1,6 +1,7 @@
 """The streams of clients: what comes at once or in halves, the ends of sessions, and clients that are silent, reset their stream or stay; and a device that fails."""
 
 import resource
+import socket
 import time
 
 from checking import at_once, expect, opened, served, stopped
@@ -13,6 +14,7 @@ CLAIM, LEASED = b'CLAIM r1 1 linux\n', 'lease 1 1 build 0 {}'
 DONE = b'DONE r1 2 1 success\n'
 COMPLETED = 'run 1 1 completed success build:success(success)'
 LOOK = served.look(1)
+HEALTH, WELL = b'GET /healthz HTTP/1.1\r\n\r\n', (200, 'ok')
 SECONDS = 60
 
 
@@ -66,16 +68,46 @@ def resets(acts, folder):
 
 
 def idle(acts, folder):
-    """A client that is silent for a second is disconnected: after an answer and half a line, and from the start. Others come after it."""
-    service, _ = opened(acts, folder, idle=1)
-    for client, asked in ((service.runner(), FETCH + FETCH[:5]), (service.hook(), b'')):
-        client.send(asked)
-        expect(not asked or client.answer()[1] == UNKNOWN, 'a fetch has another answer')
-        begin = time.monotonic()
+    """A client of any port that is silent for a second is disconnected: after an answer and half a request, and from the start. Others come after it."""
+    views = served.free_port()
+    service, _ = opened(acts, folder, idle=1, view_port=views)
+    silent = service.hook(), service.runner(), served.Hook(views), served.Hook(views)
+    silent[1].send(FETCH + FETCH[:5])
+    silent[2].send(HEALTH + HEALTH[:5])
+    expect(silent[1].answer()[1] == UNKNOWN and silent[2].answer() == WELL, 'a client has another answer before it is silent')
+    begin = time.monotonic()
+    for client in silent:
         expect(client.rest() == (b'', True) and time.monotonic() - begin < 20, 'a silent client is not disconnected')
     expect_answers(service.hook(), ((served.event('d1'), 'created 1'),))
     stopped(service)
-    return 'two silent clients are disconnected'
+    return f'{len(silent)} silent clients of three ports are disconnected'
+
+
+SLOTS, STREAMS = 1024, 3_200
+
+
+def every_slot(acts, folder):
+    """As many clients as there are places, on three ports at a time: each asks and is answered. One more waits until one of them has gone."""
+    if not served.room_for_streams(STREAMS):
+        return f'left out: no process may have {STREAMS} files open'
+    views = served.free_port()
+    service, _ = opened(acts, folder, view_port=views)
+    ports = ((service.hook, served.look(9), (404, UNKNOWN)), (service.runner, FETCH, (None, UNKNOWN)), (lambda: served.Hook(views), HEALTH, WELL))
+    clients = [(come, asked, wanted, [come() for _ in range(SLOTS)]) for come, asked, wanted in ports]
+    for _, asked, _, crowd in clients:
+        for client in crowd:
+            client.send(asked)
+    for come, asked, wanted, crowd in clients:
+        for place, client in enumerate(crowd):
+            found = client.answer()
+            expect(found == wanted, 'client', place, 'of', SLOTS, 'is answered', found, 'and not', wanted)
+        one_more = come()
+        crowd[-1].close()
+        expect(one_more.ask(asked) == wanted, 'one more is answered otherwise')
+        for client in crowd[:-1]:
+            client.close()
+    stopped(service)
+    return f'{SLOTS} clients on each of {len(ports)} ports at a time, and one more'
 
 
 FIRST, SECOND = 500, 100
@@ -113,6 +145,74 @@ def lost(acts, folder):
     expect(ended == (1, '', 'acts: refused 51\n'), 'a service whose device fails ends with', ended)
     expect(served.show(acts, path) == ['run 1 1 in_progress - build:open(running)'], 'the file of a service whose device has failed is another one')
     return 'an entry that the device loses is answered 52'
+
+
+# As many bodies as a session may ask for without its end, each as long as it may be: more than the system takes for a client that reads nothing.
+BODIES, BODY = 63, served.BODY.ljust(65_536)
+ROOM = 32_768
+
+
+class Slow(served.Client):
+    """A client with little room for what it has not read."""
+
+    def __init__(self, port, asked):
+        self.held, self.stream = b'', socket.socket()
+        self.stream.setsockopt(socket.SOL_SOCKET, socket.SO_RCVBUF, ROOM)
+        self.stream.settimeout(SECONDS)
+        self.stream.connect(('127.0.0.1', port))
+        self.send(asked)
+
+
+def with_a_body(acts, folder):
+    """A service with a run whose body is the longest, the client that posted it, its view port, and what asks for many bodies on each port, with the answers."""
+    views = served.free_port()
+    service, _ = opened(acts, folder, view_port=views)
+    sender = service.hook()
+    expect_answers(sender, ((served.event('d1', BODY), 'created 1'),))
+    fields = f'HTTP/1.1 200 OK\r\nContent-Type: application/json\r\nContent-Length: {len(BODY)}\r\n'
+    get, seen = b'GET /runs/1/body HTTP/1.1\r\n\r\n', [fields.encode() + more + b'\r\n' + BODY for more in (b'', b'Cache-Control: no-store\r\n')]
+    return service, sender, ((service.hooks, get, seen[0]), (service.runners, b'FETCH 1\n', b'body %d\n%s\n' % (len(BODY), BODY)), (views, get, seen[1]))
+
+
+def full_sockets(acts, folder):
+    """What a socket does not take stays for its client, on each port: it reads later, and gets every byte. Others are answered meanwhile."""
+    service, sender, asked = with_a_body(acts, folder)
+    readers = [(Slow(port, request * BODIES), wanted) for port, request, wanted in asked]
+    time.sleep(0.3)
+    expect_answers(sender, ((served.look(9), UNKNOWN),))
+    for reader, wanted in readers:
+        for place in range(BODIES):
+            found = reader.take(len(wanted))
+            expect(found == wanted, 'body', place, 'of', BODIES, 'differs, after', found[:200])
+        reader.close()
+    stopped(service)
+    return f'{BODIES} bodies of {len(BODY)} bytes, read late by a client of each of {len(readers)} ports'
+
+
+def clients_of(views):
+    """How many clients each port has, as the metrics say; of the view port without the one that asks."""
+    viewer = served.Hook(views)
+    page = viewer.ask(b'GET /metrics HTTP/1.1\r\n\r\n')[1]
+    viewer.close()
+    hook, runner, view = (int(page.split(f'acts_clients{{port="{port}"}} ')[1].split('\n')[0]) for port in ('hook', 'runner', 'view'))
+    return hook, runner, view - 1
+
+
+def gives_back(acts, folder):
+    """A client that takes nothing of what it is sent gives its place back, on each port, and so does one that stays after the end of its session."""
+    service, sender, asked = with_a_body(acts, folder)
+    sender.close()
+    views = asked[2][0]
+    readers = [Slow(port, request * BODIES) for port, request, _ in asked]
+    stays = [Slow(port, request) for port, request in ((service.hooks, b'GET\r\n\r\n'), (service.runners, b'x' * 512), (views, b'GET\r\n\r\n'))]
+    begin = time.monotonic()
+    while (left := clients_of(views)) != (0, 0, 0):
+        expect(time.monotonic() - begin < 30, 'of clients that read nothing, and of those that stay after their end, the ports have', left, 'after 30 s')
+        time.sleep(0.1)
+    for client in readers + stays:
+        client.close()
+    stopped(service)
+    return f'{len(readers)} clients that read nothing and {len(stays)} that stay after their end are disconnected'
 
 
 CREATED = 'HTTP/1.1 201 Created\r\nContent-Type: text/plain\r\nContent-Length: 10\r\n{}\r\ncreated 1\n'
@@ -213,4 +313,4 @@ def failed_stream(acts, folder):
     return 'three rounds, of which one stream fails'
 
 
-CHECKS = silent, over_histories, resets, idle, together, lost, last_answers, stays, failed_stream
+CHECKS = silent, over_histories, resets, idle, every_slot, together, lost, full_sockets, gives_back, last_answers, stays, failed_stream
