@@ -14,7 +14,7 @@ from encoded import claim, file, job, leg, number, run, table
 from files import held, write
 
 RUNS, RUNNERS, LEASED_FROM = 20_000, 2_000, 17_000
-TABLE_AREA, SECONDS = 4 << 20, 600
+TABLE_AREA, SECONDS, SECONDS_OF_TURN = 4 << 20, 600, 20
 LAST_RUN, FIRST_READY, LAST_AREA = 100_000, 99_990, 16 << 20
 # What a history has that turns over by itself, and the most that one more turn of a few clients adds.
 COMMANDS, IN_A_TURN, HISTORY_AREA = 50_000, 16, 1 << 18
@@ -270,7 +270,8 @@ def of_last(answers):
 
 
 def long_sessions(acts, folder):
-    """Sessions of as many lines and requests as they can have, each as long as it can be, and then with answers that are as long as they can be."""
+    """Sessions of as many lines and requests as they can have, each as long as it can be, and then with answers that are as long as they can be: after 64 MiB of them
+    the history turns over."""
     views = served.free_port()
     service, _ = opened(acts, folder, area=16 << 20, view_port=views)
     bodies = [served.BODY[:-1] + b',"n":"%05d"}' % it + b' ' * (BODY_BYTES - len(served.BODY) - 12) for it in range(SESSION_REQUESTS)]
@@ -283,6 +284,7 @@ def long_sessions(acts, folder):
     expect({len(it) for it in lines} == {512}, 'lines are not as long as they can be')
     in_one_session(service.runner(), [(line, b'nothing\n') for line in lines])
     in_one_session(service.runner(), [(b'FETCH 1\n', b'body %d\n%s\n' % (BODY_BYTES, bodies[0]))] * SESSION_LINES)
+    expect(service.wait_settled(1, SECONDS_OF_TURN), SESSION_LINES, 'bodies that are sent leave a history that does not turn over')
     for port, more in ((service.hooks, b''), (views, b'Cache-Control: no-store\r\n')):
         answers = [b'HTTP/1.1 200 OK\r\nContent-Type: application/json\r\nContent-Length: %d\r\n%s\r\n%s' % (BODY_BYTES, more, body) for body in bodies]
         asked = [b'GET /runs/%d/body HTTP/1.1\r\n\r\n' % it for it in range(1, 1 + SESSION_REQUESTS)]
