@@ -45,8 +45,8 @@ class Viewed(served.Forever):
 class Play:
     """A script that is played over the two old ports and by the model."""
 
-    def __init__(self, service, seed):
-        self.service, self.made, self.dice = service, scripts.Script(seed), random.Random(f'views {seed}')
+    def __init__(self, service, seed, made=None):
+        self.service, self.made, self.dice = service, made or scripts.Script(seed), random.Random(f'views {seed}')
         self.store = self.made.store
         self.table = self.store.table
         self.hook, self.runner = service.hook(), service.runner()
