@@ -73,9 +73,9 @@ class Client:
         form = messages()[f'{method}Response']
         return json_format.Parse(answer.body.decode(), form()) if self.is_json else form.FromString(answer.body)
 
-    def register(self, token: str, *labels: str, name: str = 'g1') -> Any:
+    def register(self, token: str, *labels: str, name: str = 'g1', **more: Any) -> Any:
         """Registers, and says its labels, as act_runner does at its start."""
-        runner = self.call('Register', name=name, token=token, labels=list(labels), version='v0.2.11').runner
+        runner = self.call('Register', name=name, token=token, labels=list(labels), version='v0.2.11', **more).runner
         self.uuid, self.token = runner.uuid, runner.token
         return self.call('Declare', version='v0.2.11', labels=list(labels)).runner
 

@@ -3,6 +3,7 @@ from __future__ import annotations
 
 import json
 import pathlib
+import shutil
 import time
 from collections.abc import Callable, Iterator
 from typing import Any
@@ -12,8 +13,10 @@ from harness import HubProcess, Service
 from runner_trials import until
 from test_runner_hub import LINE, Site, site, tls  # noqa: F401  (fixtures)
 
-pytest.importorskip('google.protobuf', reason='python3-protobuf is not installed')
+if not shutil.which('protoc'):
+    pytest.skip('protobuf-compiler is not installed', allow_module_level=True)
 from gitea_client import Client, Refusal, context_of, messages, workflow_of  # noqa: E402
+from google.protobuf import json_format  # noqa: E402
 
 
 @pytest.fixture(params=['proto', 'json'])
@@ -243,17 +246,95 @@ def test_a_runner_that_is_gone(alone: Site) -> None:
     assert conclusion(alone, run) == 'failure'
 
 
-def test_both_forms_of_messages() -> None:
-    """What this program writes, protobuf's own library reads, and the other way round: numbers, texts, times, maps and values of JSON, in either form."""
-    from acts_hub.gateway.connect import messages as own
-    from google.protobuf import json_format
-    context = {'a': [1, True, None, 'ä', {'b': 2.5, 'c': []}], 'd': {}, 'e': -3}
-    task = {'id': 1 << 40, 'workflow_payload': b'\0\xff', 'context': context, 'secrets': {'A': ''}, 'needs': {'x': {'outputs': {'k': 'v'}, 'result': 2}}, 'vars': {}}
-    state = {'id': -1, 'result': 3, 'started_at': 1_764_504_000_123_456_789, 'steps': [{'id': 0, 'log_index': 300, 'stopped_at': 5 * 10 ** 9}]}
-    for name, form, value in (('FetchTaskResponse', own.FETCHED_TASK, {'task': task, 'tasks_version': 7}), ('UpdateTaskRequest', own.UPDATE_TASK, {'state': state, 'outputs': {'a': 'b'}})):
-        theirs = messages()[name].FromString(form.packed(value))
-        again = json_format.Parse(json.dumps(form.shown(value)), messages()[name]())
-        assert theirs == again, name
-        for read in (form.unpacked(theirs.SerializeToString()), form.read(json.loads(json_format.MessageToJson(theirs)))):
-            assert messages()[name].FromString(form.packed(read)) == theirs, name
-    assert context_of(messages()['FetchTaskResponse'].FromString(own.FETCHED_TASK.packed({'task': task})).task) == context
+def test_messages_are_those_that_are_published() -> None:
+    """Names, numbers and types of all fields are those that protoc finds in the published form, but for `optional`; and what one side writes the other reads."""
+    from acts_hub.gateway.connect.messages import MESSAGES
+
+    def fields(message: Any) -> dict[str, tuple[int, int, int, str]]:
+        return {one.name: (one.number, one.type, one.label, one.message_type.full_name if one.message_type else '') for one in message.DESCRIPTOR.fields}
+    assert {name: fields(one) for name, one in MESSAGES.items()} == {name: fields(one) for name, one in messages().items()}
+    given = {'task': {'id': 1 << 40, 'workflow_payload': 'AP8=', 'context': {'a': [1, True, None, 'ä', {'b': 2.5, 'c': []}], 'd': {}, 'e': -3},
+                      'needs': {'x': {'outputs': {'k': 'v'}, 'result': 'RESULT_FAILURE'}}}, 'tasks_version': 7}
+    ours, theirs = (json_format.ParseDict(given, of['FetchTaskResponse']()) for of in (MESSAGES, messages()))
+    assert messages()['FetchTaskResponse'].FromString(ours.SerializeToString()) == theirs
+    assert MESSAGES['FetchTaskResponse'].FromString(theirs.SerializeToString()) == ours
+
+
+def test_an_ephemeral_runner_has_one_task(site: Site, client: Client) -> None:
+    """GitHub Docs, "Using ephemeral runners for autoscaling": it is not given another job, and is known no more after its one."""
+    assert client.register(site.token, site.label, ephemeral=True).ephemeral is True
+    runs = [site.admit({'run': 'true'}) for _ in range(2)]
+    task = client.fetch()
+    first = int(context_of(task)['run_id'])
+    assert client.fetch() is None, 'nor a second one meanwhile'
+    client.update(task, 'SUCCESS')
+    assert client.log(task, 0, 'late') == 1 and client.update(task, 'SUCCESS').state.result == 1, 'what comes again is taken'
+    for _ in range(2):
+        with pytest.raises(Refusal) as found:
+            client.fetch()
+        assert (found.value.status, found.value.code) == (401, 'unauthenticated')
+    other, = set(runs) - {first}
+    assert conclusion(site, first) == 'success' and site.service.run(other)['status'] == 'queued'
+    again = Client(site.hub)
+    assert again.register(site.token, site.label).ephemeral is False and int(context_of(again.fetch())['run_id']) == other
+
+
+def test_registrations_of_a_token_are_bounded(make_hub: Callable[..., HubProcess], tmp_path: pathlib.Path) -> None:
+    site = Site(tmp_path, make_hub(tables={'gateway': {'runners_a_token': 2}}))
+    clients = [Client(site.hub) for _ in range(3)]
+    for client in clients[:2]:
+        client.register(site.token, site.label)
+    with pytest.raises(Refusal) as found:
+        clients[2].register(site.token, site.label)
+    assert (found.value.status, found.value.code) == (429, 'resource_exhausted')
+    clients[2].register(site.hub.token('another', 'runner', prefix='', labels=(site.label,)), site.label)
+    assert clients[0].fetch() is None
+
+
+def test_a_runner_that_is_silent_for_days_is_forgotten(tmp_path: pathlib.Path) -> None:
+    """GitHub Docs, "Removing self-hosted runners": after 14 days, an ephemeral one after a day."""
+    from acts_hub.gateway.connect.runners import Runner, Runners
+    from acts_hub.ledger.database import Database
+    from acts_hub.ledger.notes import NoteStore
+    from acts_hub.times import now
+    day = 86_400_000
+    for ephemeral, days in ((False, 14), (True, 1)):
+        runner = Runner('u', 'n', 1, ['l'], ephemeral=ephemeral, seen=1000)
+        assert not runner.is_forgotten(1000 + days * day) and runner.is_forgotten(1001 + days * day)
+    database = Database(tmp_path / 'ledger.sqlite')
+    database.open()
+    runners, at, uuid = Runners(NoteStore(database)), now(), '12345678-1234-1234-1234-123456789abc'
+    runner = Runner(uuid, 'n', 1, ['l'], seen=1)
+    runners.register(runner)
+    slot = runners.free(runner)
+    assert slot is not None and [each.name for each in runners.slots(runner)] == [slot.name]
+    runners.keep_slot(slot)
+    runners.heard(runner)
+    known = runners.runner(uuid)
+    assert known is not None and at <= known.seen and not known.is_forgotten(now())
+    runners.remove(runner)
+    assert runners.runner(uuid) is None and database.flushed() and database.read('select * from notes') == []
+    database.close()
+
+
+def test_the_task_of_a_revoked_token_ends(alone: Site) -> None:
+    """Nobody can report it any more, so it has failed once nothing was heard for the time of the configuration."""
+    client = Client(alone.hub)
+    client.register(alone.token, alone.label)
+    run = alone.admit({'run': 'true'})
+    task = client.fetch()
+    assert alone.hub.command('token', '--config', str(alone.hub.config), 'revoke', f'runners-{alone.label}').returncode == 0
+    with pytest.raises(Refusal) as found:
+        client.update(task, 'SUCCESS')
+    assert found.value.code == 'unauthenticated'
+    until(lambda: conclusion(alone, run) == 'failure')
+
+
+def test_texts_that_are_no_utf_8() -> None:
+    """Half of a pair of surrogates in an output is a question mark, and holds up no leg."""
+    from acts_hub.gateway.connect.tasks import task_of
+    from acts_hub.gateway.leases import Lease
+    body = {'repo': 'octo/hello', 'path': 'ci.yml', 'workflow': {'jobs': {'a': {}, 'b': {'needs': 'a'}}}}
+    told = {'github': {}, 'github_defaults': {}, 'results': {'a': 'success'}, 'outputs': {'a': {'k': 'a\ud800b'}}}
+    task = task_of(body, told, Lease(7, 1, 1, 'b', 0, 'octo/hello', 'r', 'CLAIM r 1 x'), {})
+    assert messages()['Task'].FromString(task.SerializeToString()).needs['a'].outputs == {'k': 'a?b'}

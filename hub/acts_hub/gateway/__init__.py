@@ -12,6 +12,7 @@ from ..events.settings import settings_of
 from .approvals import Approvals
 from .artifacts import Artifacts
 from .caches import Caches
+from .connect.runners import RUNNERS_A_TOKEN
 from .connect.service import SECONDS_OF_SILENCE as SILENCE_OF_TASKS
 from .connect.service import RunnerService
 from .environments import Environments
@@ -49,7 +50,8 @@ class Gateway:
         self.places = Places(self.legs, body_of(hub), hub.events)
         self.approvals = Approvals(hub, self.environments)
         silence = float(table.get('silence_of_tasks', SILENCE_OF_TASKS))
-        self.connect = RunnerService(hub, self.passing, self.legs, self.findings, silence)
+        self.connect = RunnerService(hub, self.passing, self.legs, self.findings, silence,
+                                     int(table.get('runners_a_token', RUNNERS_A_TOKEN)))
         self.watching: asyncio.Task[None] | None = None
 
     async def start(self) -> None:

@@ -6,16 +6,17 @@ from collections.abc import Awaitable, Callable
 from typing import Any
 
 from aiohttp import web
+from google.protobuf import json_format
+from google.protobuf.message import DecodeError
 
 from ...service.http import Away
 from ..passing import Forbidden, TryAgain
-from .protobuf import Malformed, Message
+from .messages import MESSAGES
 
 MAX_MESSAGE = 8 << 20  # bytes
 STATUSES = {'invalid_argument': 400, 'unauthenticated': 401, 'permission_denied': 403, 'not_found': 404,
             'resource_exhausted': 429, 'unavailable': 503}
-Given = dict[str, Any]
-Method = Callable[[web.Request, Given], Awaitable[Given]]
+Method = Callable[[web.Request, Any], Awaitable[Any]]  # of a message to a message
 Handler = Callable[[web.Request], Awaitable[web.StreamResponse]]
 
 
@@ -32,7 +33,7 @@ def refused(code: str, words: str) -> web.Response:
     return web.json_response({'code': code, 'message': words}, status=STATUSES[code])
 
 
-async def message_of(request: web.Request, form: Message) -> Given:
+async def message_of(request: web.Request, name: str) -> Any:
     """The message that a request has."""
     data = b''
     async for part in request.content.iter_chunked(1 << 16):
@@ -41,21 +42,24 @@ async def message_of(request: web.Request, form: Message) -> Given:
             raise Refused('resource_exhausted', f'a message has {MAX_MESSAGE} bytes at most')
     try:
         if request.content_type == 'application/proto':
-            return form.unpacked(data)
-        return form.read(json.loads(data or b'{}'))
-    except (Malformed, ValueError, RecursionError) as fault:
+            return MESSAGES[name].FromString(data)
+        said = json.loads(data or b'{}')
+        if not isinstance(said, dict):
+            raise ValueError('it is no object')
+        return json_format.ParseDict(said, MESSAGES[name](), ignore_unknown_fields=True)
+    except (DecodeError, json_format.ParseError, ValueError, RecursionError) as fault:
         raise Refused('invalid_argument', f'the message is not read: {fault}') from None
 
 
-def handler(method: Method, form: Message, answered: Message) -> Handler:
-    """What answers the requests of a method."""
+def handler(name: str, method: Method) -> Handler:
+    """What answers the requests of a method, which take a message `NAMERequest`."""
     async def handle(request: web.Request) -> web.StreamResponse:
         if request.content_type not in ('application/proto', 'application/json'):
             raise web.HTTPUnsupportedMediaType(headers={'Accept-Post': 'application/proto, application/json'})
         if request.headers.get('Connect-Protocol-Version', '1') != '1':
             return refused('invalid_argument', 'Connect-Protocol-Version is 1')
         try:
-            answer = await method(request, await message_of(request, form))
+            answer = await method(request, await message_of(request, f'{name}Request'))
         except Refused as why:
             return refused(why.code, str(why))
         except Forbidden as why:
@@ -63,6 +67,6 @@ def handler(method: Method, form: Message, answered: Message) -> Handler:
         except (Away, TryAgain, web.HTTPServiceUnavailable) as why:
             return refused('unavailable', getattr(why, 'text', None) or str(why))
         if request.content_type == 'application/proto':
-            return web.Response(body=answered.packed(answer), content_type='application/proto')
-        return web.json_response(answered.shown(answer))
+            return web.Response(body=answer.SerializeToString(), content_type='application/proto')
+        return web.Response(text=json_format.MessageToJson(answer), content_type='application/json')
     return handle

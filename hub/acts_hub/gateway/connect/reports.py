@@ -15,7 +15,7 @@ from ..findings import Findings
 from ..leases import Lease, Leases
 from ..legs import OUTPUTS
 from .calls import Refused
-from .messages import CANCELLED, FAILURE, SKIPPED, SUCCESS
+from .messages import CANCELLED, FAILURE, SKIPPED, SUCCESS, nanoseconds
 from .tasks import job_in, title_of
 
 if TYPE_CHECKING:
@@ -77,13 +77,13 @@ class Reports:
             self.offsets[task['lease']] = found
         return self.offsets[task['lease']]
 
-    def lines(self, task: Task, index: int, rows: Sequence[Mapping[str, Any]]) -> int:
+    def lines(self, task: Task, index: int, rows: Sequence[Any]) -> int:
         """Takes lines from the one of this index on, and gives how many there are. What is there is left as it is."""
         offsets = self.offsets_of(task)
         have = len(offsets) - 1
         new = rows[have - index:] if 0 <= index <= have else []
-        commands = [command_in(row['content']) for row in new]
-        texts = [f'{stamp(row["time"])} {shown(row["content"], command)}\n' for row, command in zip(new, commands)]
+        commands = [command_in(row.content) for row in new]
+        texts = [f'{stamp(nanoseconds(row, "time"))} {shown(row.content, command)}\n' for row, command in zip(new, commands)]
         made = [text.encode(errors='replace') for text in texts]
         if made:
             try:
@@ -108,7 +108,7 @@ class Reports:
         offsets = self.offsets_of(task)
         return offsets[min(max(0, index), len(offsets) - 1)]
 
-    async def take(self, task: Task, state: Mapping[str, Any], outputs: Mapping[str, str]) -> list[str]:
+    async def take(self, task: Task, state: Any, outputs: Mapping[str, str]) -> list[str]:
         """Takes what a runner says of a task, and gives the names of the outputs that are kept."""
         await self.learn(task)
         try:
@@ -129,23 +129,23 @@ class Reports:
             steps = job_in(json.loads(body), task['job']).get('steps') if body else None
             self.titles[task['lease']] = [title_of(step) for step in steps] if isinstance(steps, list) else []
 
-    def steps(self, task: Task, state: Mapping[str, Any]) -> None:
+    def steps(self, task: Task, state: Any) -> None:
         """Marks steps that have begun and ended. What comes before the first one is a step of its own."""
         place = self.place(task)
-        begun = [step for step in state['steps'] if step['started_at'] and 0 <= step['id'] < MAX_STEPS]
-        self.logs.step(*place, SET_UP, 'Set up job', 0, milliseconds(state['started_at']))
+        begun = [step for step in state.steps if nanoseconds(step, 'started_at') and 0 <= step.id < MAX_STEPS]
+        self.logs.step(*place, SET_UP, 'Set up job', 0, milliseconds(nanoseconds(state, 'started_at')))
         if begun:
-            self.end(task, SET_UP, 'success', begun[0]['log_index'], begun[0]['started_at'])
-        elif state['result']:
-            self.end(task, SET_UP, OUTCOMES.get(state['result'], 'failure'), 1 << 53, state['stopped_at'])
+            self.end(task, SET_UP, 'success', begun[0].log_index, nanoseconds(begun[0], 'started_at'))
+        elif state.result:
+            self.end(task, SET_UP, OUTCOMES.get(state.result, 'failure'), 1 << 53, nanoseconds(state, 'stopped_at'))
         titles = self.titles[task['lease']]
         for step in begun:
-            number, begin = step['id'], self.offset(task, step['log_index'])
+            number, begin, stopped = step.id, self.offset(task, step.log_index), nanoseconds(step, 'stopped_at')
             title = titles[number] if number < len(titles) else f'Step {number}'
-            self.logs.step(*place, FIRST + number, title, begin, milliseconds(step['started_at']))
-            if step['result'] in OUTCOMES and step['stopped_at']:
-                last = step['log_index'] + step['log_length']
-                self.end(task, FIRST + number, OUTCOMES[step['result']], last, step['stopped_at'])
+            self.logs.step(*place, FIRST + number, title, begin, milliseconds(nanoseconds(step, 'started_at')))
+            if step.result in OUTCOMES and stopped:
+                last = step.log_index + step.log_length
+                self.end(task, FIRST + number, OUTCOMES[step.result], last, stopped)
 
     def end(self, task: Task, number: int, outcome: str, line: int, at: int | None) -> None:
         """Marks the end of a step."""

@@ -9,12 +9,16 @@ from typing import Any
 
 from ...access.identity import Identity
 from ...ledger.notes import NoteStore
+from ...times import now
 from ..lines import LABEL
 from .calls import Refused
 
 RUNNERS, SLOTS = 'connect-runner', 'connect-slot'
 MAX_SLOTS = 16  # tasks that a runner has at a time
 MAX_LABELS = 14
+RUNNERS_A_TOKEN = 1000
+HOUR = 3_600_000  # milliseconds
+KEPT, KEPT_EPHEMERAL = 14 * 24 * HOUR, 24 * HOUR  # of a runner that says nothing, as at GitHub
 
 
 @dataclass
@@ -39,13 +43,19 @@ class Runner:
     labels: list[str]
     version: str = ''
     slots: list[str] = field(default_factory=list)
+    ephemeral: bool = False  # it has one task, and is known no more after that
+    seen: int = 0  # when it was last heard, give or take an hour
+
+    def is_forgotten(self, at: int) -> bool:
+        """Whether it has said nothing for so long that it is taken to be gone for good."""
+        return at - self.seen > (KEPT_EPHEMERAL if self.ephemeral else KEPT)
 
 
 class Runners:
     """All of them, in the ledger."""
 
-    def __init__(self, notes: NoteStore) -> None:
-        self.notes = notes
+    def __init__(self, notes: NoteStore, a_token: int = RUNNERS_A_TOKEN) -> None:
+        self.notes, self.a_token = notes, a_token
 
     def runner(self, uuid: str) -> Runner | None:
         """A runner by its id."""
@@ -55,6 +65,31 @@ class Runners:
     def keep(self, runner: Runner) -> None:
         """Keeps a runner."""
         self.notes.set(0, 0, RUNNERS, runner.uuid, asdict(runner))
+
+    def heard(self, runner: Runner) -> None:
+        """Notes that a runner has said something, now and then."""
+        if now() - runner.seen > HOUR:
+            runner.seen = now()
+            self.keep(runner)
+
+    def register(self, runner: Runner) -> None:
+        """Keeps a new runner, if its token has not too many."""
+        listed = (Runner(**kept) for kept in self.notes.list(0, 0, RUNNERS).values())
+        if sum(each.token == runner.token for each in listed) >= self.a_token:
+            raise Refused('resource_exhausted', f'the token has {self.a_token} runners. One that says nothing is known no '
+                          'more after 14 days, an ephemeral one after one')
+        self.keep(runner)
+
+    def remove(self, runner: Runner) -> None:
+        """Forgets a runner."""
+        for name in runner.slots:
+            self.notes.set(0, 0, SLOTS, name, None)
+        self.notes.set(0, 0, RUNNERS, runner.uuid, None)
+
+    def is_spent(self, runner: Runner) -> bool:
+        """Whether it was for one task, which has ended."""
+        slots = self.slots(runner) if runner.ephemeral else []
+        return any(slot.ended for slot in slots) and not any(slot.task for slot in slots)
 
     def slot(self, name: str) -> Slot:
         """A slot by its name."""
@@ -72,7 +107,7 @@ class Runners:
     def free(self, runner: Runner) -> Slot | None:
         """A slot without a task, a new one if there are not too many."""
         found = next((slot for slot in self.slots(runner) if slot.task is None), None)
-        if found is not None or len(runner.slots) >= MAX_SLOTS:
+        if found is not None or len(runner.slots) >= (1 if runner.ephemeral else MAX_SLOTS):
             return found
         runner.slots.append(f'{runner.name}-{secrets.token_hex(6)}')
         self.keep(runner)

@@ -14,16 +14,16 @@ from aiohttp import web
 from ...access.identity import Identity, Right
 from ...log import say
 from ...rest.numbers import number_of
+from ...times import now
 from ..findings import Findings
 from ..legs import Legs, written
 from ..lines import fits
 from ..passing import Passing
-from . import messages
-from .calls import Given, Refused, handler
-from .messages import CANCELLED, FAILURE, SKIPPED, SUCCESS, UNSPECIFIED
+from . import tasks
+from .calls import Method, Refused, handler
+from .messages import CANCELLED, FAILURE, IDLE, MESSAGES, SKIPPED, SUCCESS, UNSPECIFIED
 from .reports import Reports
 from .runners import RUNNERS, Runner, Runners, Slot, labels_for, name_for
-from .tasks import refusal_of, task_of
 
 if TYPE_CHECKING:
     from ...hub import Hub
@@ -39,9 +39,9 @@ MAX_VERSION = 64  # characters of the version that a runner says
 class RunnerService:
     """The calls, over the lines that any runner behind the hub sends."""
 
-    def __init__(self, hub: Hub, passing: Passing, legs: Legs, findings: Findings, silence: float) -> None:
+    def __init__(self, hub: Hub, passing: Passing, legs: Legs, findings: Findings, silence: float, a_token: int) -> None:
         self.hub, self.passing, self.legs, self.silence = hub, passing, legs, silence
-        self.runners, self.reports = Runners(hub.notes), Reports(hub, passing.leases, findings)
+        self.runners, self.reports = Runners(hub.notes, a_token), Reports(hub, passing.leases, findings)
         self.locks: defaultdict[str, asyncio.Lock] = defaultdict(asyncio.Lock)
         self.heard: dict[str, float] = {}  # slot -> when its runner said something
         self.beaten: dict[str, tuple[float, str]] = {}  # slot -> when it was asked how its lease stands, and the answer
@@ -49,14 +49,12 @@ class RunnerService:
 
     def routes(self) -> list[web.RouteDef]:
         """The addresses of the calls."""
-        listed = [
-            ('runner.v1.RunnerService/Register', self.register, messages.REGISTER, messages.REGISTERED),
-            ('runner.v1.RunnerService/Declare', self.declare, messages.DECLARE, messages.DECLARED),
-            ('runner.v1.RunnerService/FetchTask', self.fetch_task, messages.FETCH_TASK, messages.FETCHED_TASK),
-            ('runner.v1.RunnerService/UpdateTask', self.update_task, messages.UPDATE_TASK, messages.UPDATED_TASK),
-            ('runner.v1.RunnerService/UpdateLog', self.update_log, messages.UPDATE_LOG, messages.UPDATED_LOG),
-            ('ping.v1.PingService/Ping', self.ping, messages.PING, messages.PING)]
-        return [web.post(f'{BASE}/{path}', handler(method, form, answered)) for path, method, form, answered in listed]
+        listed: dict[str, dict[str, Method]] = {
+            'runner.v1.RunnerService': {'Register': self.register, 'Declare': self.declare, 'FetchTask': self.fetch_task,
+                                        'UpdateTask': self.update_task, 'UpdateLog': self.update_log},
+            'ping.v1.PingService': {'Ping': self.ping}}
+        return [web.post(f'{BASE}/{service}/{name}', handler(name, method))
+                for service, methods in listed.items() for name, method in methods.items()]
 
     # Who calls.
 
@@ -73,44 +71,57 @@ class RunnerService:
         runner = self.runners.runner(request.headers.get('x-runner-uuid', ''))
         if runner is None or runner.token != identity.token_id:
             raise Refused('unauthenticated', 'unregistered runner')
+        self.runners.heard(runner)
         return identity, runner
 
-    async def ping(self, _: web.Request, given: Given) -> Given:
+    async def ping(self, _: web.Request, given: Any) -> Any:
         """Whether somebody is here."""
-        return {'data': f'Hello, {given["data"]}!'}
+        return MESSAGES['PingResponse'](data=f'Hello, {given.data}!')
 
-    async def register(self, request: web.Request, given: Given) -> Given:
+    async def register(self, request: web.Request, given: Any) -> Any:
         """A runner is known by an id from now on; its token stays the one by which it has registered."""
-        identity = self.identity(request, given['token'])
-        labels, made = labels_for(identity, given['labels']), str(uuid.uuid4())
-        runner = Runner(made, name_for(identity, given['name']), identity.token_id, labels, given['version'][:MAX_VERSION])
-        self.runners.keep(runner)
+        identity = self.identity(request, given.token)
+        labels, made = labels_for(identity, list(given.labels)), str(uuid.uuid4())
+        runner = Runner(made, name_for(identity, given.name), identity.token_id, labels, given.version[:MAX_VERSION],
+                        ephemeral=given.ephemeral, seen=now())
+        self.runners.register(runner)
         await written(self.hub.database)
         say(f'{identity.name} registers {runner.name} ({", ".join(labels)})')
-        return {'runner': {**shown(runner), 'token': given['token']}}
+        return MESSAGES['RegisterResponse'](runner=shown(runner, given.token))
 
-    async def declare(self, request: web.Request, given: Given) -> Given:
+    async def declare(self, request: web.Request, given: Any) -> Any:
         """The labels of a runner, each time that it begins."""
         identity, runner = self.caller(request)
-        runner.labels, runner.version = labels_for(identity, given['labels']), given['version'][:MAX_VERSION]
+        runner.labels, runner.version = labels_for(identity, list(given.labels)), given.version[:MAX_VERSION]
         self.runners.keep(runner)
         await written(self.hub.database)
-        return {'runner': shown(runner)}
+        return MESSAGES['DeclareResponse'](runner=shown(runner))
 
     # Tasks.
 
-    async def fetch_task(self, request: web.Request, given: Given) -> Given:
+    async def fetch_task(self, request: web.Request, given: Any) -> Any:
         """A task, if there is one. No claim is sent while no leg would fit."""
         identity, runner = self.caller(request)
-        nothing = {'tasks_version': self.hub.mirror.version + 1}
+        nothing = MESSAGES['FetchTaskResponse'](tasks_version=self.hub.mirror.version + 1)
         async with self.locks[runner.uuid]:
-            runner = self.runners.runner(runner.uuid) or runner
+            known = self.runners.runner(runner.uuid)
+            if known is None or self.runners.is_spent(known):
+                await self.forget(known or runner)
+                raise Refused('unauthenticated', 'unregistered runner: it was for one task')
+            runner = known
             slot = next((each for each in self.runners.slots(runner) if each.task and 'attempt' not in each.task), None)
             if slot is None and not await self.has_claimed(identity, runner):
                 return nothing
             slot = slot or next(each for each in self.runners.slots(runner) if each.task and 'attempt' not in each.task)
             task = await self.task(identity, slot)
-        return {'task': task, **nothing} if task else nothing
+        return MESSAGES['FetchTaskResponse'](task=task, tasks_version=nothing.tasks_version) if task else nothing
+
+    async def forget(self, runner: Runner) -> None:
+        """A runner is known no more."""
+        self.runners.remove(runner)
+        self.locks.pop(runner.uuid, None)
+        await written(self.hub.database)
+        say(f'{runner.name} is known no more')
 
     async def has_claimed(self, identity: Identity, runner: Runner) -> bool:
         """Claims for a free slot, if there is one, and a leg that may be for it. Whether it has a leg then."""
@@ -158,7 +169,7 @@ class RunnerService:
         self.heard[slot.name] = time.monotonic()
         return slot.task is not None
 
-    async def task(self, identity: Identity, slot: Slot) -> Given | None:
+    async def task(self, identity: Identity, slot: Slot) -> Any:
         """The task of the leg that a slot holds; None if it may not run, which ends it."""
         held: Any = slot.task
         body = await self.ask(identity, slot, f'FETCH {held["run"]}')
@@ -167,14 +178,16 @@ class RunnerService:
         if isinstance(body, str) or lease is None or whole is None:
             raise Refused('unavailable', f'run {held["run"]} is not shown')
         admitted, told = json.loads(body), self.legs.told(lease, whole)
-        why = refusal_of(admitted, told, lease.job)
+        why = tasks.refusal_of(admitted, told, lease.job)
         if why:
             self.reports.refuse(lease, why)
             await self.done(identity, slot, 'failure')
+            slot.ended = None  # its runner has not heard of it
+            self.runners.keep_slot(slot)
             return None
         held.update(attempt=lease.attempt, leg=lease.leg)
         self.runners.keep_slot(slot)
-        return task_of(admitted, told, lease, json.loads(held['combination']))
+        return tasks.task_of(admitted, told, lease, json.loads(held['combination']))
 
     def slot_of(self, runner: Runner, task: int) -> Slot:
         """The slot that holds a task, or has held it last."""
@@ -185,20 +198,20 @@ class RunnerService:
                     return slot
         raise Refused('not_found', f'the runner has no task {task}')
 
-    async def update_task(self, request: web.Request, given: Given) -> Given:
+    async def update_task(self, request: web.Request, given: Any) -> Any:
         """Steps, outputs and the result of a task. The answer says whether it is to end."""
         identity, runner = self.caller(request)
-        state = given['state'] or messages.TASK_STATE.unpacked(b'')
+        state, outputs = given.state, dict(given.outputs)
         async with self.locks[runner.uuid]:
-            slot = self.slot_of(runner, state['id'])
-            if slot.task is None or slot.task['lease'] != state['id']:  # (it has ended, and the slot may have another one)
-                return {'state': {'id': state['id'], 'result': state['result']}, 'sent_outputs': list(given['outputs'])}
-            sent = await self.reports.take(slot.task, state, given['outputs'])
-            if state['result'] != UNSPECIFIED:
-                await self.done(identity, slot, ORDERS.get(state['result'], 'failure'))
-                return {'state': {'id': state['id'], 'result': state['result']}, 'sent_outputs': sent}
+            slot = self.slot_of(runner, state.id)
+            if slot.task is None or slot.task['lease'] != state.id:  # (it has ended, and the slot may have another one)
+                return updated(state.id, state.result, list(outputs))
+            sent = await self.reports.take(slot.task, state, outputs)
+            if state.result != UNSPECIFIED:
+                await self.done(identity, slot, ORDERS.get(state.result, 'failure'))
+                return updated(state.id, state.result, sent)
             result = UNSPECIFIED if await self.standing(identity, slot) == 'go on' else CANCELLED
-            return {'state': {'id': state['id'], 'result': result}, 'sent_outputs': sent}
+            return updated(state.id, result, sent)
 
     async def standing(self, identity: Identity, slot: Slot) -> str:
         """How the service answers a beat. It is asked now and then."""
@@ -225,13 +238,13 @@ class RunnerService:
         self.reports.complete(held)
         await written(self.hub.database)
 
-    async def update_log(self, request: web.Request, given: Given) -> Given:
+    async def update_log(self, request: web.Request, given: Any) -> Any:
         """Lines of a log. The answer says how many there are: where to go on."""
         _, runner = self.caller(request)
         async with self.locks[runner.uuid]:
-            slot = self.slot_of(runner, given['task_id'])
-            task = next(held for held in (slot.task, slot.ended) if held and held['lease'] == given['task_id'])
-            return {'ack_index': self.reports.lines(task, given['index'], given['rows'])}
+            slot = self.slot_of(runner, given.task_id)
+            task = next(held for held in (slot.task, slot.ended) if held and held['lease'] == given.task_id)
+            return MESSAGES['UpdateLogResponse'](ack_index=self.reports.lines(task, given.index, given.rows))
 
     # Runners that are gone.
 
@@ -246,18 +259,43 @@ class RunnerService:
                     say(f'a task of {uuid_of_it} is not ended: {fault!r}')
 
     async def sweep(self, uuid_of_it: str) -> None:
-        """Ends the tasks of a runner that is gone."""
+        """Ends the tasks of a runner that is gone, also of one whose token was revoked; forgets it after a while."""
         async with self.locks[uuid_of_it]:
             runner = self.runners.runner(uuid_of_it)
-            token = self.hub.access.tokens.by_id(runner.token) if runner else None
-            for slot in self.runners.slots(runner) if runner and token else ():
+            token = next((each for each in self.hub.access.tokens.all() if runner and each.id == runner.token), None)
+            if runner is None or token is None:
+                return
+            for slot in self.runners.slots(runner):
                 silent = time.monotonic() - self.heard.get(slot.name, self.began)
-                if slot.task is not None and silent > self.silence and token is not None:
-                    say(f'run {slot.task["run"]} {slot.task["job"]}: {slot.name} was silent for {silent:.0f} seconds')
+                if silent > self.silence and (task := await self.task_of(token.identity(), runner, slot)):
+                    say(f'run {task["run"]} {task["job"]}: {slot.name} was silent for {silent:.0f} seconds')
                     await self.done(token.identity(), slot, 'failure')
+            if not any(slot.task for slot in self.runners.slots(runner)):
+                await self.age(runner)
+
+    async def task_of(self, identity: Identity, runner: Runner, slot: Slot) -> dict[str, Any] | None:
+        """The task that a slot holds, also one for which the answer to its claim was lost."""
+        if slot.task is None and slot.line and await self.passing.leases.of_runner(slot.name):
+            await self.claim(identity, runner, slot)
+        return slot.task
+
+    async def age(self, runner: Runner) -> None:
+        """Forgets a runner without a task that has said nothing for long. Of one that an earlier version has kept it is not
+        known when it was heard."""
+        if not runner.seen:
+            self.runners.heard(runner)
+        elif runner.is_forgotten(now()):
+            await self.forget(runner)
 
 
-def shown(runner: Runner) -> Given:
+def shown(runner: Runner, token: str = '') -> Any:
     """A runner as it is told of itself."""
-    return {'id': number_of('runner', runner.uuid), 'uuid': runner.uuid, 'name': runner.name, 'labels': runner.labels,
-            'version': runner.version, 'status': 1}
+    return MESSAGES['Runner'](
+        id=number_of('runner', runner.uuid), uuid=runner.uuid, token=token, name=runner.name, status=IDLE,
+        version=runner.version, labels=runner.labels, ephemeral=runner.ephemeral)
+
+
+def updated(task: int, result: int, outputs: list[str]) -> Any:
+    """The answer to a report."""
+    state = MESSAGES['TaskState'](id=task, result=result)
+    return MESSAGES['UpdateTaskResponse'](state=state, sent_outputs=outputs)

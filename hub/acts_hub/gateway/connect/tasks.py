@@ -5,13 +5,14 @@ import json
 from collections.abc import Mapping
 from typing import Any
 
+from acts_workflow.members import REQUIRED
 from acts_workflow.values import text_of
 
 from ..leases import Lease
-from .messages import CANCELLED, FAILURE, SKIPPED, SUCCESS
+from .messages import CANCELLED, FAILURE, MESSAGES, SKIPPED, SUCCESS
 
 RESULTS = {'success': SUCCESS, 'failure': FAILURE, 'cancelled': CANCELLED, 'skipped': SKIPPED}
-NOT_SENT = 'needs', 'if', 'strategy', 'concurrency', 'environment'  # of a job: the service has seen to these
+NOT_SENT = 'needs', 'if', 'strategy', 'concurrency', 'environment', REQUIRED  # of a job: these are seen to here
 Json = dict[str, Any]
 
 
@@ -45,16 +46,31 @@ def needs_of(body: Mapping[str, Any], told: Mapping[str, Any], name: str) -> Jso
             for each in ([names] if isinstance(names, str) else names)}
 
 
-def task_of(body: Mapping[str, Any], told: Mapping[str, Any], lease: Lease, combination: Mapping[str, Any]) -> Json:
+def task_of(body: Mapping[str, Any], told: Mapping[str, Any], lease: Lease, combination: Mapping[str, Any]) -> Any:
     """The task. It has no secrets: the hub knows none."""
     variables = {member: text_of(value) for member, value in (body.get('vars') or {}).items()}
-    return {'id': lease.lease, 'workflow_payload': payload_of(body, lease.job, combination), 'vars': variables,
-            'context': context_of(body, told, lease.run, lease.job), 'needs': needs_of(body, told, lease.job)}
+    made = MESSAGES['Task'](id=lease.lease, workflow_payload=payload_of(body, lease.job, combination))
+    made.vars.update(sendable(variables))
+    made.context.update(sendable(context_of(body, told, lease.run, lease.job)))
+    for name, need in sendable(needs_of(body, told, lease.job)).items():
+        made.needs[name].result = need['result']
+        made.needs[name].outputs.update(need['outputs'])
+    return made
+
+
+def sendable(value: Json) -> Json:
+    """A value with a question mark for each character that UTF-8 does not have."""
+    made: Json = json.loads(json.dumps(value, ensure_ascii=False).encode(errors='replace'))
+    return made
 
 
 def refusal_of(body: Mapping[str, Any], told: Mapping[str, Any], name: str) -> str:
-    """Why a leg may not run: its environment is neither free nor approved. The empty text if it may."""
-    said = job_in(body, name).get('environment')
+    """Why a leg may not run: its environment is neither free nor approved, or it requires a secret. The empty text if it
+    may."""
+    job = job_in(body, name)
+    said = job.get('environment')
+    for secret in job.get(REQUIRED) or ():
+        return f'jobs.{name}: the called workflow requires the secret {secret}, and no secret is sent by this protocol'
     environment = said.get('name') if isinstance(said, dict) else said
     if not said or told['is_approved'] or str(environment).lower() in told['free_environments']:
         return ''
