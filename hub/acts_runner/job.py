@@ -63,6 +63,7 @@ class Job:
         self.github = self.context_github()
         is_fork = is_of_a_fork(self.github, self.body['repo'])
         self.secrets = {} if is_fork else secrets_in(self.options.secrets, environment_of(self.job))
+        self.inherited = set() if is_fork else set(map(str.upper, secrets_in(self.options.secrets, '')))
         self.log = log_of(self.options, self.leg, self.facts, self.secrets.values())
         self.storage, self.caches = self.stores()
         self.needs = self.needs_of(self.facts.get('results') or {})

@@ -7,7 +7,7 @@ import re
 import shutil
 from typing import TYPE_CHECKING, Any, Mapping
 
-from acts_workflow.members import JOB, STEP
+from acts_workflow.members import JOB, REQUIRED, STEP
 from acts_workflow.values import Unknown
 
 from . import contained, container, expressions
@@ -87,12 +87,13 @@ class Plan:
         """A job with all that is in it."""
         self.of_objects(self.job.workflow, 'the workflow')
         self.of_objects(job, place)
-        for name in sorted(job.keys() - JOB):
+        for name in sorted(job.keys() - JOB - {REQUIRED}):
             self.fault(f'{place}.{name}', 'this runner does not do it')
         for name, key in (('env', 'jobs.env'), ('defaults', 'jobs.defaults.run'), ('outputs', 'jobs.outputs')):
             self.texts(f'{place}.{name}', job.get(name), key)
         self.texts('env', self.job.workflow.get('env'), 'env')
         self.of_permissions(job, place)
+        self.of_secrets(job, place)
         self.of_environment(job.get('environment'), f'{place}.environment')
         self.of_minutes(job, place, 'jobs.timeout-minutes')
         self.of_containers(job, place)
@@ -108,6 +109,13 @@ class Plan:
         for name, what in PERMISSIONS.items():
             if isinstance(given, dict) and given.get(name) == 'write':
                 self.fault(f'{where}permissions.{name}', f'{what} is a service of GitHub\'s, and not here')
+
+    def of_secrets(self, job: Mapping[str, Any], place: str) -> None:
+        """The secrets that a called workflow requires, of a call that passes on all: those of an environment are none of
+        them, as at GitHub."""
+        for name in job.get(REQUIRED) or ():
+            if str(name).upper() not in self.job.inherited:
+                self.fault(place, f'the called workflow requires the secret {name}, which this runner does not have')
 
     def of_environment(self, environment: Any, place: str) -> None:
         """The environment of a job, which the operator or an approval has to free."""

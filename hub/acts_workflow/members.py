@@ -21,6 +21,7 @@ STEP = words('id if name uses run working-directory shell with env continue-on-e
 INNER = {'strategy': words('matrix fail-fast max-parallel'), 'concurrency': words('group cancel-in-progress'),
          'environment': words('name url'), 'defaults': words('run')}
 RUN = words('shell working-directory')
+REQUIRED = 'required-secrets'  # of a job that a call puts in place, and of no file: what its runner has to have
 
 BRANCHES, TAGS, PATHS = (words(f'{kind} {kind}-ignore') for kind in ('branches', 'tags', 'paths'))
 TYPES = words('types')

@@ -108,7 +108,7 @@ SECRETS = 'on: {workflow_call: {secrets: {Need: {required: true}, may: {}}}}\njo
     ('', 'on: workflow_call\njobs: {a: {runs-on: x, step: []}}', 'jobs.c.uses: .github/workflows/c.yml: jobs.a.step: GitHub has no such member here'),
     ('', SECRETS, 'jobs.c: the called workflow requires the secret Need'), ('secrets: {MAY: "${{ secrets.M }}"}', SECRETS, 'jobs.c.secrets: the called workflow requires the secret Need'),
     ('secrets: {NEED: "${{ secrets.N }}", other: "${{ secrets.O }}"}', SECRETS, 'jobs.c.secrets.other: the called workflow has no such secret'),
-    ('secrets: inherit', SECRETS, '${{ secrets.need }}'), ('secrets: {NEED: "${{ secrets.N }}"}', SECRETS, '${{ (secrets.N) }}')], ids=range(6))
+    ('secrets: inherit', SECRETS, '${{ secrets.need }}'), ('secrets: inherit', SECRETS.replace('required', 'description'), '${{ secrets.need }}'), ('secrets: {NEED: "${{ secrets.N }}"}', SECRETS, '${{ (secrets.N) }}')], ids=range(7))
 def test_called_workflows(more: str, called: str, wanted: str) -> None:
     """Page "Reuse workflows": secrets that are required, and that there are."""
     try:
@@ -116,3 +116,26 @@ def test_called_workflows(more: str, called: str, wanted: str) -> None:
     except Fault as fault:
         found = str(fault)
     assert found.startswith(wanted)
+
+
+OUTER = 'on: {workflow_call: {secrets: {Top: {required: true}, need: {}}}}\njobs: {b: {uses: ./.github/workflows/c.yml, secrets: MORE}}'
+
+
+@pytest.mark.parametrize('more, inner, wanted', [
+    ('inherit', 'inherit', ['Need', 'Top']), ('inherit', '{need: "${{ secrets.x }}"}', ['Top']), ('{top: "${{ secrets.t }}", need: "${{ secrets.n }}"}', 'inherit', None),
+    ('{top: "${{ secrets.t }}"}', 'inherit', 'jobs.c.secrets: the called workflow requires the secret Need'), ('inherit', '{may: "${{ secrets.m }}"}', 'the called workflow requires')],
+    ids=range(5))
+def test_secrets_that_are_passed_on_without_a_list(more: str, inner: str, wanted: Any) -> None:
+    """Page "Reuse workflows": `inherit` passes on all secrets, and what is required has to be among them. Which there are, the runner knows."""
+    files = {'.github/workflows/d.yml': OUTER.replace('MORE', inner), CALLED: SECRETS}
+    call = f'on: push\njobs: {{c: {{uses: ./.github/workflows/d.yml, secrets: {more}}}}}'
+    try:
+        found: Any = sent(call, files)['jobs']['c__b__a'].get('required-secrets')
+    except Fault as fault:
+        found = wanted if isinstance(wanted, str) and wanted in str(fault) else str(fault)
+    assert found == wanted
+
+
+def test_no_file_says_which_secrets_a_runner_has_to_have() -> None:
+    with pytest.raises(Fault, match='required-secrets: GitHub has no such member here'):
+        sent('on: push\njobs: {a: {runs-on: x, required-secrets: [X]}}', {})

@@ -160,6 +160,22 @@ def test_pull_requests_of_forks_get_no_secrets(case: Case) -> None:
     assert case.noted() == ['has hush', 'has ', 'has '], case.noted()
 
 
+def test_secrets_that_a_call_requires(case: Case) -> None:
+    """Page "Reuse workflows": what is required has to be among the secrets that `inherit` passes on; those of an environment are not."""
+    path = os.path.join(case.folder, 'secrets')
+    with open(path, 'w', opener=lambda path, flags: os.open(path, flags, 0o600)) as file:
+        json.dump({'Token': 'hush', 'environments': {'live': {'MORE': 'of it'}}}, file)
+    required = {'required-secrets': ['token', 'MORE']}
+    _run(case, [NEVER], 'failure', '--secrets', path, '--environment', 'live', environment='live', **required)
+    refused = [line for line in case.log() if 'requires the secret' in line]
+    assert refused == ['not run: jobs.build: the called workflow requires the secret MORE, which this runner does not have'], case.log()
+    required['required-secrets'].pop()
+    case.post('', steps=[note('"has ${{ secrets.TOKEN }}"')], **required)
+    case.start('--secrets', path)
+    until(case.has_ended)
+    assert case.noted() == ['has hush'] and case.said()[-2:] == ['r1: run 2 build 0 success: ok', 'r1: nothing'], case.complained()
+
+
 def test_others_may_not_read_secrets(case: Case) -> None:
     path = os.path.join(case.folder, 'secrets')
     with open(path, 'w') as file:

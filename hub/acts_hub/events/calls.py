@@ -157,14 +157,42 @@ def check_secrets(job: Tree, called: Tree, place: str) -> None:
     """Faults a secret that the called workflow requires and does not get, and one that it does not name."""
     if job.get('secrets') == 'inherit':
         return
-    given, named = members(job, 'secrets'), members(triggers_of(called.get('on'))['workflow_call'], 'secrets')
-    got, known = {name.lower() for name in given}, {name.lower() for name in named}
-    for name, form in named.items():
-        if isinstance(form, dict) and form.get('required') is True and name.lower() not in got:
-            raise Fault(f'the called workflow requires the secret {name}', f'{place}.secrets' if given else place)
+    given, known = members(job, 'secrets'), {name.lower() for name in named_secrets(called)}
+    check_required(job, required_secrets(called), place)
     for name in given:
         if name.lower() not in known:
             raise Fault('the called workflow has no such secret', f'{place}.secrets.{name}')
+
+
+def named_secrets(called: Tree) -> Tree:
+    """The secrets that a called workflow names."""
+    return members(triggers_of(called.get('on'))['workflow_call'], 'secrets')
+
+
+def required_secrets(called: Tree) -> list[str]:
+    """The secrets that a called workflow requires."""
+    return [name for name, form in named_secrets(called).items()
+            if isinstance(form, dict) and form.get('required') is True]
+
+
+def check_required(job: Tree, required: Iterable[str], place: str) -> None:
+    """Faults a secret that is required, and that a call with a list of secrets does not pass on."""
+    given = members(job, 'secrets')
+    got = {name.lower() for name in given}
+    for name in required:
+        if name.lower() not in got:
+            raise Fault(f'the called workflow requires the secret {name}', f'{place}.secrets' if given else place)
+
+
+def with_required(inner: Tree, job: Tree, called: Tree, place: str) -> Tree:
+    """The job with the secrets that its runner has to have: a call that passes on all says nothing of which there are.
+    One with a list passes on what a call within the called workflow requires, or is at fault."""
+    wanted = list(inner.get(syntax.REQUIRED, []))
+    if job.get('secrets') != 'inherit':
+        check_required(job, wanted, place)
+        return {name: value for name, value in inner.items() if name != syntax.REQUIRED}
+    names = sorted({*wanted, *required_secrets(called)})
+    return {**inner, syntax.REQUIRED: names} if names else inner
 
 
 def rows_of(job: Tree, place: str) -> list[Row] | None:
@@ -211,7 +239,8 @@ def jobs_of_call(name: str, job: Tree, called: Tree, known: Folding, given: Mapp
     secrets = secrets_of(job, place)
     check_secrets(job, called, place)
     replaced = Replaced(given, secrets, ids, workflow['jobs'].keys() - jobs.keys(), place)
-    made = {f'{name}__{id}': named(replaced.job(each), id, job, name) for id, each in jobs.items()}
+    made = {f'{name}__{id}': with_required(named(replaced.job(each), id, job, name), job, called, place)
+            for id, each in jobs.items()}
     passing.check_outputs(made, given, place)
     return made
 

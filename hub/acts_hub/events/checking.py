@@ -13,6 +13,7 @@ from acts_runner.options import Options
 from acts_runner.plan import Plan
 from acts_workflow import cron, filters, inputs, profile, reading
 from acts_workflow.filters import as_list, triggers_of
+from acts_workflow.members import REQUIRED
 from acts_workflow.values import Fault, Unknown, text_of
 
 from .bodies import Sent, Server, Source
@@ -206,6 +207,8 @@ def runner_faults(body: bytes, job: str, leg: str, combination: str, options: Op
         try:
             made = Job({'leg': held, 'body': body.decode(), 'options': here, 'facts': FACTS}, [])
             made.needs = {str(need): Unknown() for need in as_list(made.job.get('needs', []))}
+            if options.secrets is None:  # nobody has said which there are
+                made.job.pop(REQUIRED, None)
             return Plan.of_all(made)
         except (ValueError, KeyError, TypeError, AttributeError, OSError) as fault:
             return [f'jobs.{job}: not of the form of a job ({fault!r})']
