@@ -339,7 +339,7 @@ def test_a_run_that_waits_says_why(world: World, browser: Browser) -> None:
 def test_runners_at_work_come_first(world: World, browser: Browser) -> None:
     browser.open('/runners')
     headings = [one.text for one in browser.all('main h2')]
-    assert headings[0] == 'At work' and world.legs['going on'].name in browser.text()
+    assert headings[0] == 'Active' and world.legs['going on'].name in browser.text()
     row = [one.text for one in browser.all('tbody tr') if world.legs['going on'].name in one.text][0]
     assert 'linux' in row and 'test (3.10, ' in row
     browser.open(f'/runners?q={world.legs["going on"].name}')
@@ -496,7 +496,7 @@ def test_keys_reach_the_buttons_and_the_focus_is_seen(world: World, browser: Bro
     browser.until(lambda: 'did=cancel' in browser.driver.current_url and 'Cancelled' in browser.text('#head'),
                   'the run is cancelled')
     assert world.stage.service.run(run)['conclusion'] == 'cancelled'
-    assert browser.text('.message') == 'The run was asked to stop.'
+    assert browser.text('.message') == 'A cancellation of the run was requested.'
 
 
 def test_run_it_again_and_look_at_the_attempt_before(world: World, browser: Browser) -> None:

@@ -192,9 +192,9 @@ def runner(name: str, labels: tuple[str, ...] | None, heard: int | None, lease: 
     ([runner('r', ('linux',), 1), runner('s', None, 1)], ('Linux', 'gpu'),
      'waits for a runner: no runner has Linux, gpu'),
     ([], (), 'none has asked for work yet'), ([runner('r', ('linux', 'GPU', 'x'), 1)], (), '1 runner idle'),
-    ([runner('r', ('linux', 'gpu'), 1, True)], (), '1 runner, at work'),
-    ([runner('r', ('linux', 'gpu'), 5000)], (), 'not heard of lately'),
-    ([runner('r', ('linux', 'gpu'), None)], (), 'not heard of lately')])
+    ([runner('r', ('linux', 'gpu'), 1, True)], (), '1 runner, active'),
+    ([runner('r', ('linux', 'gpu'), 5000)], (), ', offline'),
+    ([runner('r', ('linux', 'gpu'), None)], (), ', offline')])
 def test_why_a_leg_has_no_runner(runners: list[Runner], missing: tuple[str, ...], words: str) -> None:
     facts = waiting.Facts(runners=runners, missing=lambda labels, repository: missing)
     why = waiting.of_wait(Wait('runner'), ('Linux', 'gpu'), 'octo/hello', facts)

@@ -9,7 +9,7 @@ pytestmark = pytest.mark.quick
 
 
 @pytest.mark.parametrize('character', ['\u202e', '\u202a', '\u2066', '\u2069', '\u061c', '\u200e', '\u200b', '\ufeff',
-                                       '\x00', '\x1b', '\x7f', '\u0085', '\U000e0041'])
+                                       '\x00', '\x1b', '\x7f', '\u0085', '\U000e0041', '\u00ad', '\u3164', '\u2800', '\u180e', '\uffa0', '\ufffa'])
 def test_a_character_that_is_not_seen_is_shown_by_its_number(character: str) -> None:
     assert f'>U+{ord(character):04X}</span>' in texts.seen(f'a{character}b')
     assert character not in texts.seen(f'a{character}b')
@@ -19,6 +19,12 @@ def test_a_character_that_is_not_seen_is_shown_by_its_number(character: str) -> 
 @pytest.mark.parametrize('text', ['שלום', 'مرحبا', 'naïve', '日本語', '👩\u200d👩\u200d👧', 'tab\tand\nline'])
 def test_a_text_of_any_language_stays_as_it_is(text: str) -> None:
     assert texts.seen(text) == text
+
+
+def test_marks_that_are_piled_up_are_cut() -> None:
+    """They would cover the lines around them; those of Vietnamese and the like stay."""
+    assert texts.seen('e' + '\u0301' * 300 + 'x') == texts.plain('e' + '\u0301' * 300 + 'x') == 'e' + '\u0301' * 4 + '…x'
+    assert texts.seen('e\u0302\u0301t') == 'e\u0302\u0301t'
 
 
 @pytest.mark.parametrize('text', ['<script>alert(1)</script>', '"><img src=x onerror=alert(1)>',

@@ -53,7 +53,7 @@ async def cancel(site: Site, request: web.Request) -> web.StreamResponse:
 
 
 async def force_cancel(site: Site, request: web.Request) -> web.StreamResponse:
-    """Ends a run that was asked to stop."""
+    """Ends a run whose cancellation was requested."""
     async def act(site: Site, run: Run, identity: Identity) -> Reply:
         return await site.hub.hooks.force(run.row.run)
     return await acted(site, request, 'force-cancel', act, lambda run: run.row.status == 'completed')

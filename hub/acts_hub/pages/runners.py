@@ -1,4 +1,4 @@
-"""Runners: those at work and those that are there before those of which nobody has heard for long."""
+"""Runners: those that are active and idle before those that are offline."""
 from __future__ import annotations
 
 from collections.abc import Mapping
@@ -15,7 +15,7 @@ from .site import Site, signed_in
 from .waiting import AWAY, is_there
 
 MOST_SHOWN, MOST_AWAY = 200, 50
-BUSY, IDLE, GONE = states.Sign('running', 'At work'), states.Sign('success', 'Idle'), states.Sign('skipped', 'Away')
+BUSY, IDLE, GONE = states.Sign('running', 'Active'), states.Sign('success', 'Idle'), states.Sign('skipped', 'Offline')
 
 
 @dataclass(frozen=True)
@@ -57,16 +57,16 @@ async def runners(site: Site, request: web.Request) -> web.StreamResponse:
     q = words_of(request.query)
     every = [one for one in await site.runners() if _fits(one, q.casefold())]
     order = sorted(every, key=lambda one: (one.heard_seconds_ago is None, one.heard_seconds_ago, one.name))
-    kinds = {'At work': [one for one in order if one.lease],
+    kinds = {'Active': [one for one in order if one.lease],
              'Idle': [one for one in order if not one.lease and is_there(one)],
-             'Away': [one for one in order if not is_there(one)]}
-    wholes = await site.wholes(one.lease.run for one in kinds['At work'][:MOST_SHOWN] if one.lease
+             'Offline': [one for one in order if not is_there(one)]}
+    wholes = await site.wholes(one.lease.run for one in kinds['Active'][:MOST_SHOWN] if one.lease
                                and one.lease.run in site.hub.mirror.runs)
     sections = []
     for title, found in kinds.items():
-        most = MOST_AWAY if title == 'Away' else MOST_SHOWN
+        most = MOST_AWAY if title == 'Offline' else MOST_SHOWN
         sections.append((title, [_row(site, request, one, wholes) for one in found[:most]], max(0, len(found) - most)))
-    counts = {'busy': len(kinds['At work']), 'idle': len(kinds['Idle']), 'away': len(kinds['Away']), 'all': len(every)}
+    counts = {'busy': len(kinds['Active']), 'idle': len(kinds['Idle']), 'away': len(kinds['Offline']), 'all': len(every)}
     return site.page(request, 'runners.html', title='Runners', active='runners', q=q, counts=counts, sections=sections,
                      away_words=moments.lasted(AWAY * 1000), changes='/-/changes', every=10)
 

@@ -40,9 +40,9 @@ HEADERS = {
     'X-Content-Type-Options': 'nosniff', 'Referrer-Policy': 'same-origin', 'X-Frame-Options': 'DENY',
     'Cache-Control': 'no-store'}
 NOTES = {
-    'cancel': 'The run was asked to stop.', 'force-cancel': 'The run was ended.', 'rerun': 'The run begins again.',
-    'rerun-failed': 'The failed jobs begin again.',
-    'dispatch': 'The workflow was asked to run; its run is listed here once it is there.',
+    'cancel': 'A cancellation of the run was requested.', 'force-cancel': 'The run was cancelled.',
+    'rerun': 'A re-run of all jobs has begun.', 'rerun-failed': 'A re-run of the failed jobs has begun.',
+    'dispatch': 'A run of the workflow was requested. It is listed here once it exists.',
     'approve': 'The environment was approved for this run.'}
 SENTENCES = {
     404: ('Not found', 'There is nothing here, or you may not see it.'),

@@ -99,9 +99,9 @@ def _able(labels: tuple[str, ...], repository: str, facts: Facts) -> Why:
         return Why(f'no runner has {", ".join(missing or labels)}' if missing else 'none has asked for work yet',
                    '/runners', '(all runners)')
     if not there:
-        return Why('', link, f'{_counted(len(fitting), "runner")} with these labels', ', not heard of lately')
+        return Why('', link, f'{_counted(len(fitting), "runner")} with these labels', ', offline')
     if busy == len(there):
-        return Why('', link, '1 runner, at work' if busy == 1 else f'{busy} runners, all at work')
+        return Why('', link, '1 runner, active' if busy == 1 else f'{busy} runners, all active')
     return Why('', link, f'{_counted(len(there) - busy, "runner")} idle')
 
 
