@@ -20,6 +20,7 @@ from harness import HUB, PYTHON, Service, request
 ROOT = str(HUB)
 RUNNER = [PYTHON, '-P', '-c', f'import sys; sys.path.insert(0, {ROOT!r}); from acts_runner.__main__ import main; main()']
 NOTED = 'echo began >> "$NOTES"; sleep {}; echo ended >> "$NOTES"'
+HELD = 'echo began >> "$NOTES"; until [ -e "$NOTES.go" ]; do sleep 0.1; done; echo ended >> "$NOTES"'  # till `Case.go_on`
 TAGGED = 'echo {0} began >> "$NOTES"; sleep {1}; echo {0} ended >> "$NOTES"'
 Act = Callable[..., Any]
 ENGINE = pathlib.Path(__file__).with_name('stand_in_engine.py').read_text()  # stands in for docker
@@ -219,6 +220,10 @@ class Case(Host):
     def noted(self) -> list[str]:
         """What steps have noted."""
         return lines_of(self.notes)
+
+    def go_on(self) -> None:
+        """Steps that are held go on."""
+        pathlib.Path(self.notes + '.go').touch()
 
     def completed(self, conclusion: str, run: int = 1) -> None:
         """The run has come to this."""

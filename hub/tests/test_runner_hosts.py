@@ -5,7 +5,7 @@ import os
 import shutil
 import time
 
-from runner_trials import NOTED, TAGGED, Case, Host, is_first_claim, until
+from runner_trials import HELD, NOTED, TAGGED, Case, Host, is_first_claim, until
 
 
 def _deploy(case: Case, count: int = 3) -> list[str]:
@@ -115,14 +115,15 @@ def test_restored_before_its_report_and_the_same_again(case: Case) -> None:
 def test_restored_while_it_is_away(case: Case) -> None:
     """The runner is killed while its steps run, and they end well: so the last line that it kept is its claim, which fits the restored service."""
     copy = case.service.copy()
-    case.post(TAGGED.format('one', 1))
+    case.post(HELD)
     case.start()
     until(case.noted)
     case.kill()
+    case.go_on()
     until(lambda: len(case.noted()) == 2)
     time.sleep(0.5)
     _restored(case, copy, TAGGED.format('two', 0))
-    assert case.noted() == ['one began', 'one ended', 'two began', 'two ended'], case.noted()
+    assert case.noted() == ['began', 'ended', 'two began', 'two ended'], case.noted()
 
 
 def test_restored_while_its_steps_run(case: Case) -> None:
@@ -137,17 +138,18 @@ def test_restored_while_its_steps_run(case: Case) -> None:
 
 def test_restored_to_its_steps(case: Case) -> None:
     """The copy has the lease, of which the runner has forgotten how it ended: a failure."""
-    case.post(TAGGED.format('one', 1))
+    case.post(HELD)
     case.start(beat=1)
     until(case.noted)
     copy = case.service.copy()
+    case.go_on()
     case.says('r1: run 1 build 0 success: ok', 'r1: nothing')
     case.process.wait()
     case.service.restore(copy)
     case.start(beat=1)
     case.says('r1: run 1 build 0 success: ok', 'r1: nothing', 'r1: run 1 build 0 failure: ok', 'r1: nothing')
     case.completed('failure')
-    assert case.noted() == ['one began', 'one ended'], case.noted()
+    assert case.noted() == ['began', 'ended'], case.noted()
 
 
 def test_restored_twice(case: Case, at: str = 'DONE') -> None:

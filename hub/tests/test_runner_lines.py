@@ -7,7 +7,7 @@ import time
 from typing import Any
 
 from acts_runner.files import Slots
-from runner_trials import NOTED, Case, is_first_claim, until
+from runner_trials import HELD, NOTED, Case, is_first_claim, until
 
 
 def test_first_poll_finds_nothing(case: Case) -> None:
@@ -20,12 +20,13 @@ def test_first_poll_finds_nothing(case: Case) -> None:
 
 
 def test_polls_with_pauses(case: Case) -> None:
+    began = time.monotonic()
     case.start(pause=2)
     until(lambda: sum(line.startswith('CLAIM') for line in case.between.lines) == 2)
     case.post(NOTED.format(0))
     case.says('r1: run 1 build 0 success: ok')
     claims = len({line for line in case.between.lines if line.startswith('CLAIM')})
-    assert claims <= 4, f'{claims} claims'
+    assert claims <= 4 + (time.monotonic() - began) / 2, f'{claims} claims'
 
 
 def test_beats_are_few(case: Case) -> None:
@@ -76,10 +77,11 @@ def test_killed_at_work(case: Case) -> None:
     case.post(NOTED.format(0))
     case.start()
     case.says('r1: run 1 build 0 success: ok', 'r1: nothing')
-    case.post(NOTED.format(2))
+    case.post(HELD)
     case.start()
     until(lambda: len(case.noted()) == 3)
     case.kill()
+    case.go_on()
     case.start()
     case.says('r1: run 1 build 0 success: ok', 'r1: nothing', 'r1: run 2 build 0 success: ok', 'r1: nothing')
     case.completed('success', run=2)

@@ -17,7 +17,10 @@ from harness import HUB, PYTHON, Process, RunnerLines, Service, body_of, request
 
 AFTER = 3  # seconds after which a runner is silent
 FENCE = '''#!/bin/sh
-cd "$(dirname "$0")" && echo "$1 $ACTS_RUNNER $ACTS_RUN $ACTS_JOB $ACTS_LEG $ACTS_WHY" >> fenced && sleep "$(cat delay)" && exit "$(cat status)"
+cd "$(dirname "$0")" && echo "$1 $ACTS_RUNNER $ACTS_RUN $ACTS_JOB $ACTS_LEG $ACTS_WHY" >> fenced || exit
+count=$(wc -l < fenced)
+while [ -e held ] && ! [ -e "go-$count" ]; do sleep 0.1; done
+sleep "$(cat delay)" && exit "$(cat status)"
 '''
 
 
@@ -158,17 +161,18 @@ def test_a_silent_runner_is_lost_once_its_host_is_fenced(service: Service, watch
 def test_one_that_is_heard_meanwhile_is_not_lost(service: Service, watch: Callable[..., Watchdog]) -> None:
     """While its host is fenced it beats, or gets another lease: neither is ended."""
     watchdog = watch()
-    watchdog.tell('delay', '4')
+    watchdog.tell('held', '')
     runs = [admit(service) for _ in range(2)]
     runner = Runner(service, 'heard')
     assert runner.claim() == runs[0]
     until(watchdog.fenced, what='the command')
-    time.sleep(3)
     assert runner.beat() == 'go on'
+    watchdog.tell('go-1', '')
     meanwhile = 'heard was silent, and is not lost: it was heard meanwhile'
     until(lambda: watchdog.said().count(meanwhile) == 1)
     until(lambda: len(watchdog.fenced()) == 2, what='the next command')
     assert (runner.done(), runner.claim()) == ('ok', runs[1])
+    watchdog.tell('go-2', '')
     until(lambda: watchdog.said().count(meanwhile) == 2)
     assert [leg(service, run) for run in runs] == ['success', 'running']
 

@@ -181,7 +181,7 @@ class Play:
         got, _, body = self.service.get(target)
         answer = json.loads(body)
         for runner in answer['runners']:
-            if runner.pop('heard_seconds_ago') not in range(0, 60):
+            if runner.pop('heard_seconds_ago') not in range(int(time.time() - self.began) + 3):
                 raise Wrong(f'{target}: {body!r}')
         self.same(target, (got, answer), (200, shown.runners(self.table, after, limit or 100, name)))
 
