@@ -184,7 +184,15 @@ pub transcript_send : IsSend transcript
 transcript_send = declared_send transcript_type (search (parts, asked_send) depth 10, (search parts depth 6, (search (parts, ending.the_send) depth 6, tt)))
 
 run_send : IsSend run
-run_send = view_send run_inside _ _ _ _ (declared_send run_type (search (parts, prepared_send) depth 6, (search (parts, number.the_send) depth 6, (search (parts, phase.the_send) depth 6, (search parts depth 6, (search (parts, job.the_send) depth 10, tt))))))
+run_send =
+    view_send run_inside _ _ _ _
+    (declared_send run_type (
+      search (parts, number.the_send) depth 6,
+      (
+        search (parts, number.the_send) depth 6,
+        (search (parts, prepared_send) depth 6, (search (parts, number.the_send) depth 6, (search (parts, phase.the_send) depth 6, (search parts depth 6, (search (parts, job.the_send) depth 10, tt))))),
+      ),
+    ))
 
 -- the workflow by which runs are counted is a share of an event
 key_send : IsSend key
@@ -205,7 +213,7 @@ rows_send =
     view_send rows_inside _ _ _ _
     (declared_send rows_type (
       search (parts, run_send) depth 10,
-      (search parts depth 10, (search (parts, bindings.the_send) depth 10, (search (parts, index_send) depth 6, (search (parts, bitmap.the_send) depth 6, (search parts depth 6, tt))))),
+      (search (parts, bindings.the_send) depth 10, (search (parts, index_send) depth 6, (search (parts, bitmap.the_send) depth 6, (search parts depth 6, tt)))),
     ))
 
 runs_send : IsSend runs
@@ -213,7 +221,7 @@ runs_send =
     view_send runs_inside _ _ _ _
     (declared_send runs_type (
       search (parts, rows_send) depth 6,
-      (search (parts, book.the_send, holder.the_send) depth 10, (search (parts, bitmap.the_send) depth 6, tt)),
+      (search (parts, book.the_send, holder.the_send) depth 10, (search (parts, bitmap.the_send) depth 6, (search parts depth 6, tt))),
     ))
 
 table_data_send : IsSend table_data
