@@ -228,7 +228,7 @@ table_data_send : IsSend table_data
 table_data_send = view_send table_data_inside _ _ _ _ (declared_send table_data_type (search parts depth 6, (search (parts, runs_send) depth 6, (search (parts, runners.the_send) depth 6, tt))))
 
 pub table_send : IsSend table
-table_send = view_send table_inside _ _ _ _ (declared_send table_type (search (parts, table_data_send) depth 6, tt))
+table_send = view_send table_inside _ _ _ _ (declared_send table_type (search (parts, table_data_send) depth 6, (search parts depth 6, tt)))
 
 pub store_send : (D : RattleType) (g : Ghosts D.Denot) → IsSend D → IsSend (store D g)
 store_send D g disk =
