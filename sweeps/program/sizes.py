@@ -140,7 +140,7 @@ def many_legs(acts, folder):
 
 def beats(port, count):
     """Beats of nobody, as many in one session."""
-    runner = served.Runner(port, SECONDS)
+    runner = served.Runner(port)
     runner.send(BEAT * count)
     expect(runner.take(count * len(b'refused 45\n')) == b'refused 45\n' * count, 'beats of nobody are answered otherwise')
     runner.close()
