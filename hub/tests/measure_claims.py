@@ -57,6 +57,8 @@ def main() -> None:
         for name, found in times.items():
             print(f'{name}: median {statistics.median(found):.2f} ms, best {min(found):.2f} ms')
         print(f'load {os.getloadavg()[0]:.0f} of {os.cpu_count()} processors')
+        every.close()
+        some.close()
     finally:
         hub.kill()
         service.kill()
