@@ -126,13 +126,26 @@ def task_of_another(site: Site, holder: Client, client: Client) -> None:
 
 WRONG = [(b'\xff', 'application/proto', 400), (b'\x0a\x7fx', 'application/proto', 400), (b'\x0b', 'application/proto', 400), (b'{', 'application/json', 400),
          (b'[]', 'application/json', 400), (b'{"labels": "x"}', 'application/json', 400), (b'{"name": 7}', 'application/json', 400), (b'', 'text/plain', 415),
-         (b'{"labels": ' + b'[' * 100_000, 'application/json', 400)]
+         (b'{"labels": ' + b'[' * 60_000, 'application/json', 400)]
 
 
 @pytest.mark.parametrize('body, kind, status', WRONG, ids=range(len(WRONG)))
 def test_messages_that_are_malformed(site: Site, body: bytes, kind: str, status: int) -> None:
     answer = site.hub.request('POST', '/api/actions/runner.v1.RunnerService/Register', body, headers={'Content-Type': kind})
     assert answer.status == status and (status == 415 or answer.json()['code'] == 'invalid_argument')
+
+
+@pytest.mark.parametrize('call', ['runner.v1.RunnerService/Register', 'ping.v1.PingService/Ping'])
+def test_messages_of_nobody_are_short(site: Site, call: str) -> None:
+    answer = site.hub.request('POST', f'/api/actions/{call}', b'{"name": "%s"}' % (b'x' * 65_536), headers={'Content-Type': 'application/json'})
+    assert (answer.status, answer.json()['code']) == (429, 'resource_exhausted')
+
+
+@pytest.mark.parametrize('method', ['Declare', 'FetchTask', 'UpdateTask', 'UpdateLog'])
+def test_no_message_of_nobody_is_read(site: Site, method: str) -> None:
+    """Who has no token of a runner is refused before the message, which would be malformed."""
+    answer = site.hub.request('POST', f'/api/actions/runner.v1.RunnerService/{method}', b'\xff', headers={'Content-Type': 'application/proto'})
+    assert (answer.status, answer.json()['code']) == (401, 'unauthenticated')
 
 
 def test_two_tasks_at_a_time(site: Site, client: Client) -> None:

@@ -14,9 +14,11 @@ from ..passing import Forbidden, TryAgain
 from .messages import MESSAGES
 
 MAX_MESSAGE = 8 << 20  # bytes
+MAX_OPEN_MESSAGE = 64 << 10  # of a call that anybody may make: its token is in the message, or it needs none
 STATUSES = {'invalid_argument': 400, 'unauthenticated': 401, 'permission_denied': 403, 'not_found': 404,
             'resource_exhausted': 429, 'unavailable': 503}
 Method = Callable[[web.Request, Any], Awaitable[Any]]  # of a message to a message
+Check = Callable[[web.Request], object]  # refuses a request before its message is read
 Handler = Callable[[web.Request], Awaitable[web.StreamResponse]]
 
 
@@ -33,13 +35,13 @@ def refused(code: str, words: str) -> web.Response:
     return web.json_response({'code': code, 'message': words}, status=STATUSES[code])
 
 
-async def message_of(request: web.Request, name: str) -> Any:
-    """The message that a request has."""
+async def message_of(request: web.Request, name: str, most: int) -> Any:
+    """The message that a request has, of so many bytes at most."""
     data = b''
     async for part in request.content.iter_chunked(1 << 16):
         data += part
-        if len(data) > MAX_MESSAGE:
-            raise Refused('resource_exhausted', f'a message has {MAX_MESSAGE} bytes at most')
+        if len(data) > most:
+            raise Refused('resource_exhausted', f'a message has {most} bytes at most')
     try:
         if request.content_type == 'application/proto':
             return MESSAGES[name].FromString(data)
@@ -51,15 +53,18 @@ async def message_of(request: web.Request, name: str) -> Any:
         raise Refused('invalid_argument', f'the message is not read: {fault}') from None
 
 
-def handler(name: str, method: Method) -> Handler:
-    """What answers the requests of a method, which take a message `NAMERequest`."""
+def handler(name: str, method: Method, check: Check | None = None) -> Handler:
+    """What answers the requests of a method, which take a message `NAMERequest`: a short one, if nothing is checked before."""
     async def handle(request: web.Request) -> web.StreamResponse:
         if request.content_type not in ('application/proto', 'application/json'):
             raise web.HTTPUnsupportedMediaType(headers={'Accept-Post': 'application/proto, application/json'})
         if request.headers.get('Connect-Protocol-Version', '1') != '1':
             return refused('invalid_argument', 'Connect-Protocol-Version is 1')
         try:
-            answer = await method(request, await message_of(request, f'{name}Request'))
+            if check:
+                check(request)
+            given = await message_of(request, f'{name}Request', MAX_MESSAGE if check else MAX_OPEN_MESSAGE)
+            answer = await method(request, given)
         except Refused as why:
             return refused(why.code, str(why))
         except Forbidden as why:

@@ -49,12 +49,12 @@ class RunnerService:
 
     def routes(self) -> list[web.RouteDef]:
         """The addresses of the calls."""
-        listed: dict[str, dict[str, Method]] = {
-            'runner.v1.RunnerService': {'Register': self.register, 'Declare': self.declare, 'FetchTask': self.fetch_task,
-                                        'UpdateTask': self.update_task, 'UpdateLog': self.update_log},
-            'ping.v1.PingService': {'Ping': self.ping}}
-        return [web.post(f'{BASE}/{service}/{name}', handler(name, method))
-                for service, methods in listed.items() for name, method in methods.items()]
+        service, ping = f'{BASE}/runner.v1.RunnerService', f'{BASE}/ping.v1.PingService'
+        of_runners: dict[str, Method] = {'Declare': self.declare, 'FetchTask': self.fetch_task,
+                                         'UpdateTask': self.update_task, 'UpdateLog': self.update_log}
+        return [web.post(f'{ping}/Ping', handler('Ping', self.ping)),
+                web.post(f'{service}/Register', handler('Register', self.register)),
+                *(web.post(f'{service}/{name}', handler(name, method, self.caller)) for name, method in of_runners.items())]
 
     # Who calls.
 
