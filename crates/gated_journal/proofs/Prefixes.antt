@@ -5,17 +5,17 @@ use Rattle.std.proofs.lemmas.Bool.{cases_eq, eq-eqb, ne_eqb}
 use Rattle.std.proofs.lemmas.List.{take_all, take-take, drop-take}
 use Rattle.std.specs.Int.{from_be_bytes, w64}
 use Rattle.gated_journal.specs.Choice.{newer, open_generation, part}
+use Rattle.gated_journal.specs.Lengths.{prefix_length}
 use Rattle.gated_journal.specs.TwoAreas.{start_of, other, area_on, IsGate}
 use Rattle.gated_journal.specs.Whole.{IsChosen, IsChosenFrom, gate_of, beside}
 use Rattle.gated_journal.specs.declared.chosen.Chosen.{Chosen}
-use Rattle.gated_journal.specs.declared.lengths.TheConstants.{PREFIX_LEN}
 use Rattle.gated_journal.specs.declared.side.Side.{Side}
 use Rattle.gated_journal.specs.declared.side.Side.TheVariants.{First, Second}
 use Rattle.gated_journal.proofs.Frames.{length-part}
 use Rattle.gated_journal.proofs.TwoAreas.{within}
 
 -- the generation lies within the first bytes
-prefix_generation : (n : ℕ) (area : List ℕ) → PREFIX_LEN ≤ n → open_generation (take n area) ≡ open_generation area
+prefix_generation : (n : ℕ) (area : List ℕ) → prefix_length ≤ n → open_generation (take n area) ≡ open_generation area
 prefix_generation n [] long = ap (λ (l : List ℕ). open_generation l) (take_all n [] (omega arith))
 prefix_generation n (gate ∷ suffix) long =
     let k = n - 2 in
@@ -25,10 +25,10 @@ prefix_generation n (gate ∷ suffix) long =
     ap (λ (m : ℕ). open_generation (take m (gate ∷ suffix))) first
     ∙ ap (λ (l : List ℕ). if eqb gate 0xA5 then Some (from_be_bytes w64 l) else None) eight
 
-pub same_generation : (start len : ℕ) (disk : List ℕ) → PREFIX_LEN ≤ len
-    → open_generation (part start PREFIX_LEN disk) ≡ open_generation (part start len disk)
+pub same_generation : (start len : ℕ) (disk : List ℕ) → prefix_length ≤ len
+    → open_generation (part start prefix_length disk) ≡ open_generation (part start len disk)
 same_generation start len disk long =
-    prefix_generation PREFIX_LEN (drop start disk) (omega arith) ∙ sym (prefix_generation len (drop start disk) long)
+    prefix_generation prefix_length (drop start disk) (omega arith) ∙ sym (prefix_generation len (drop start disk) long)
 
 -- an area has a generation exactly if its gate is open
 gate_told : (area : List ℕ) → 0 < length area → IsGate (gate_of (open_generation area)) area

@@ -2,7 +2,7 @@
 use Rattle.std.specs.Prelude.{◌≡◌, ◌⊎◌, ℕ, ◌+◌, ◌-◌, ◌<◌, ◌^◌, List, [], ◌∷◌, ◌++◌, length, take, drop}
 use Rattle.definitions.specs.Disk.{Torn, Holds}
 use Rattle.definitions.specs.Area.{framed}
-use Rattle.gated_journal.specs.declared.lengths.TheConstants.{FRAME, LENGTH}
+use Rattle.gated_journal.specs.Lengths.{body_number_length, frame_length}
 
 -- what is written after the gate: the length-prefixed body and a closed gate
 abbrev pub record_of : List ℕ → List ℕ
@@ -19,7 +19,7 @@ Appends gate bytes old new = Torn (gate + 1) (length bytes) old new ⊎ IsWhole 
 
 -- the bytes between the length at the start and the gate at the end
 abbrev pub body_in : List ℕ → List ℕ
-body_in bytes = take (length bytes - FRAME) (drop LENGTH bytes)
+body_in bytes = take (length bytes - frame_length) (drop body_number_length bytes)
 
 -- the bytes encode a record of the body inside them
 pub record IsRecord (bytes : List ℕ) : Type 0 where

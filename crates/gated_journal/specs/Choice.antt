@@ -1,7 +1,7 @@
 -- Which of a disk's two areas is active.
 use Rattle.std.specs.Prelude.{ℕ, List, [], ◌∷◌, take, drop, ◌==◌, nat_lt, if◌then◌else◌, Option, Some, None}
 use Rattle.std.specs.Int.{from_be_bytes, w64}
-use Rattle.gated_journal.specs.declared.lengths.TheConstants.{GENERATION, VERSION}
+use Rattle.gated_journal.specs.Lengths.{generation_length, version_length}
 use Rattle.gated_journal.specs.declared.side.Side.{Side}
 use Rattle.gated_journal.specs.declared.side.Side.TheVariants.{First, Second}
 
@@ -12,7 +12,7 @@ part start len disk = take len (drop start disk)
 -- the generation of an area whose gate is open; it follows the gate and the version
 abbrev pub open_generation : List ℕ → Option ℕ
 open_generation [] = None
-open_generation (gate ∷ suffix) = if gate == 0xA5 then Some (from_be_bytes w64 (take GENERATION (drop VERSION suffix))) else None
+open_generation (gate ∷ suffix) = if gate == 0xA5 then Some (from_be_bytes w64 (take generation_length (drop version_length suffix))) else None
 
 -- The area whose gate is open. Of two, the one with the greater generation; of equal ones, the first.
 abbrev pub newer : Option ℕ → Option ℕ → Option Side

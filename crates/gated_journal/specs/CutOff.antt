@@ -2,16 +2,16 @@
 use Rattle.std.specs.Prelude.{◌≡◌, ◌⊎◌, ℕ, ◌+◌, ◌<◌, List, ◌∷◌, ◌++◌, length, take, drop}
 use Rattle.std.specs.Int.{from_be_bytes, w32, w64}
 use Rattle.definitions.specs.Area.{Head, opened, IsClosed, Fits}
+use Rattle.gated_journal.specs.Lengths.{body_number_length, generation_length, head_length, text_number_length, version_length}
 use Rattle.gated_journal.specs.Scanned.{Parts}
-use Rattle.gated_journal.specs.declared.lengths.TheConstants.{GENERATION, HEAD, LENGTH, TEXT_LENGTH, VERSION}
 
 -- the bytes end before the four-byte number at their start, or before as many bytes after it as it says
 abbrev pub EndsInBody : List ℕ → Type 0
-EndsInBody bytes = length bytes < LENGTH + from_be_bytes w32 (take LENGTH bytes)
+EndsInBody bytes = length bytes < body_number_length + from_be_bytes w32 (take body_number_length bytes)
 
 -- The bytes end before the text does. The length of the text follows the version and the generation.
 abbrev pub EndsInHead : List ℕ → Type 0
-EndsInHead bytes = length bytes < HEAD + from_be_bytes w64 (take TEXT_LENGTH (drop (VERSION + GENERATION) bytes))
+EndsInHead bytes = length bytes < head_length + from_be_bytes w64 (take text_number_length (drop (version_length + generation_length) bytes))
 
 -- after an open gate, if there is one here, the bytes end inside a body
 abbrev pub HasNoRecord : List ℕ → Type 0

@@ -1,6 +1,7 @@
 pub mod Appends
 pub mod Choice
 pub mod CutOff
+pub mod Lengths
 pub mod OnDisk
 pub mod Reading
 pub mod Scanned

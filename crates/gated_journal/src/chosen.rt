@@ -1,6 +1,7 @@
 ghost use Rattle.std.specs.Prelude.{◌≡◌, ◌+◌, ◌<◌, ◌≤◌, OnOk, IfOk};
 ghost use Rattle.definitions.specs.Disk.{Only, CountsFault};
 ghost use Rattle.gated_journal.specs.Choice.{newer, open_generation};
+ghost use Rattle.gated_journal.specs.Lengths.{prefix_length};
 ghost use Rattle.gated_journal.specs.Reading.{OnlyRead};
 ghost use Rattle.gated_journal.specs.Whole.{IsChosen, IsChosenFrom, gate_of};
 
@@ -65,7 +66,7 @@ fn gate_of(generation: Option<u64>) -> GateState
 pub fn choose<D: Disk>(disk: &mut D, len: u64) -> Result<Option<Chosen>, DiskFault>
     requires countable { D.fault_count disk.old < u64.MAX }
     requires within { len + len ≤ D.size disk.old }
-    requires long { PREFIX_LEN ≤ len }
+    requires long { prefix_length ≤ len }
     ensures found { IfOk result (λ found. D.honest disk.new → IsChosen len found (D.seen disk.old)) }
     ensures stable { OnOk result (D.honest disk.new → Only (D.seen disk.old) (D.images disk.new)) }
     ensures only_read { OnlyRead D.honest D.seen D.size D.moment D.images D.images_since disk.old disk.new }

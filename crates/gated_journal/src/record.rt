@@ -1,5 +1,6 @@
 ghost use Rattle.std.specs.Prelude.{◌≡◌, ◌+◌, ◌<◌, ◌≤◌, ◌^◌, length, vec_len};
 ghost use Rattle.gated_journal.specs.Appends.{record_of, body_in};
+ghost use Rattle.gated_journal.specs.Lengths.{frame_length};
 
 use crate::gate::CLOSED;
 use crate::lengths::{FRAME, LENGTH};
@@ -27,8 +28,8 @@ impl Record {
     /// Promise (Areas and records): A record is a length, the body and a closed gate; making it takes no memory
     /// By: `gated_journal::Record::{of, as_slice, into_bytes}`
     pub fn of(bytes: Vec<u8>) -> Record
-        requires long { FRAME ≤ vec_len bytes }
-        requires short { vec_len bytes < 2 ^ 32 + FRAME }
+        requires long { frame_length ≤ vec_len bytes }
+        requires short { vec_len bytes < 2 ^ 32 + frame_length }
         ensures { result ≡ body_in bytes.items }
     {
         let mut bytes = bytes;
@@ -55,8 +56,8 @@ impl Record {
 
 /// Writes the length of the body into the first four bytes, and a closed gate into the last one.
 fn frame(bytes: &mut [u8])
-    requires long { FRAME ≤ length bytes.old }
-    requires short { length bytes.old < 2 ^ 32 + FRAME }
+    requires long { frame_length ≤ length bytes.old }
+    requires short { length bytes.old < 2 ^ 32 + frame_length }
     ensures { bytes.new ≡ record_of (body_in bytes.old) }
 {
     let count = bytes.len() - FRAME as usize;

@@ -1,5 +1,6 @@
 ghost use Rattle.std.specs.Prelude.{◌≡◌, ◌<◌, ◌≤◌, ℕ, List, length, take, drop, IfSome, IsNone};
 ghost use Rattle.std.specs.Int.{from_be_bytes, w32};
+ghost use Rattle.gated_journal.specs.Lengths.{body_number_length};
 ghost use Rattle.gated_journal.specs.Scanned.{Frames, OpensWith, Parts};
 ghost use Rattle.gated_journal.specs.CutOff.{EndsInBody, HasNoRecord, EndsInRecords};
 ghost use Rattle.definitions.specs.Area.{IsClosed};
@@ -9,10 +10,10 @@ use crate::lengths::LENGTH;
 
 /// The four-byte number at the start, and the bytes after it.
 fn number_at(bytes: &[u8]) -> Option<(u32, &[u8])>
-    ensures long { IfSome result (λ found. LENGTH ≤ length bytes.now) }
-    ensures number { IfSome result (λ found. found.0 ≡ from_be_bytes w32 (take LENGTH bytes.now)) }
-    ensures rest { IfSome result (λ found. found.1.now ≡ drop LENGTH bytes.now) }
-    ensures none { IsNone result → length bytes.now < LENGTH }
+    ensures long { IfSome result (λ found. body_number_length ≤ length bytes.now) }
+    ensures number { IfSome result (λ found. found.0 ≡ from_be_bytes w32 (take body_number_length bytes.now)) }
+    ensures rest { IfSome result (λ found. found.1.now ≡ drop body_number_length bytes.now) }
+    ensures none { IsNone result → length bytes.now < body_number_length }
 {
     let (prefix, rest) = bytes.split_at_checked(LENGTH as usize)?;
     let number = u32::from_be_bytes([prefix[0], prefix[1], prefix[2], prefix[3]]);

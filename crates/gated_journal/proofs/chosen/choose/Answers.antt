@@ -1,6 +1,6 @@
 use Rattle.std.proofs.Common.{◌∙◌, ap, arith}
 use Rattle.gated_journal.specs.Choice.{open_generation, part}
-use Rattle.gated_journal.specs.declared.lengths.TheConstants.{PREFIX_LEN}
+use Rattle.gated_journal.specs.Lengths.{prefix_length}
 use Rattle.gated_journal.proofs.Prefixes.{same_generation, chosen_told}
 use Rattle.gated_journal.proofs.chosen.choose.Goals as goal
 
@@ -17,9 +17,9 @@ returns-clause-found g c = λ honest3.
     (omega (arith, c.requires.within, g.met.D.Disk.seen_length c.args.disk.now honest0))
     c.generation_of-first.result c.generation_of-second.result c.chosen_of.result
     (c.generation_of-first.ensures
-    ∙ ap open_generation (c.in_ok-read.ensures.bytes honest2 ∙ ap (part 0 PREFIX_LEN) synced)
+    ∙ ap open_generation (c.in_ok-read.ensures.bytes honest2 ∙ ap (part 0 prefix_length) synced)
     ∙ same_generation 0 len file c.requires.long)
     (c.generation_of-second.ensures
-    ∙ ap open_generation (c.in_ok-read-2.ensures.bytes honest3 ∙ ap (part len PREFIX_LEN) (c.read.ensures.only_read.same_seen honest2 ∙ synced))
+    ∙ ap open_generation (c.in_ok-read-2.ensures.bytes honest3 ∙ ap (part len prefix_length) (c.read.ensures.only_read.same_seen honest2 ∙ synced))
     ∙ same_generation len len file c.requires.long)
     c.chosen_of.ensures
