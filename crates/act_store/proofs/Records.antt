@@ -11,7 +11,8 @@ use Rattle.command_encodings.specs.Commands.{batch, command_bytes}
 use Rattle.definitions.specs.Format.{word_bytes}
 use Rattle.command_encodings.proofs.LengthLaws.{length_word}
 use Rattle.act_store.specs.Plain.{batch_length}
-use Rattle.act_store.specs.PendingBatch.{CountsFew, IsRecordOf, IsWithCommand, body_held, body_of, encoded_in, batch_state_of, with_command}
+use Rattle.act_store.specs.PendingBatch.{batch_state_of, body_of, with_command}
+use Rattle.act_store.specs.inner.PendingRecord.{CountsFew, IsRecordOf, IsWithCommand, body_held, encoded_in}
 
 pub word_is : (n : ℕ) → word_bytes n ≡ to_be_bytes w32 n
 unfolding word_bytes

@@ -5,7 +5,7 @@ use Rattle.std.specs.Prelude.{true, Bool, IsSomeAnd, Option, Some, None}
 use Rattle.wf_value.specs.declared.code.Code.TheVariants.{LastCounter}
 use Rattle.wf_value.specs.declared.refusal.Refusal.{Refusal}
 use Rattle.wf_value.specs.declared.refusal.Refusal.TheVariants.{Numbered}
-use Rattle.gated_journal.specs.declared.lengths.TheConstants.{FRAME, GATE, HEAD}
+use Rattle.gated_journal.specs.Lengths.{frame_length, gate_length, head_length}
 use Rattle.run_plan.specs.declared.command.Command.{Command}
 use Rattle.table_model.specs.TableState.{TableState}
 use Rattle.table_text.specs.Tables.{whole_table}
@@ -24,14 +24,14 @@ text_length table = length (whole_table.encoding table)
 
 -- the offset of the first record's gate in an area with a text of this length, after the area's own gate, its head and the text
 abbrev pub first_gate : ℕ → ℕ
-first_gate text = GATE + HEAD + text
+first_gate text = gate_length + head_length + text
 
 -- ---- check_begin
 
 abbrev pub refusal_of_head : {D : Type 0} → StoreState D → Option Refusal
 refusal_of_head s =
     if nat_le 18446744073709551615 s.generation then Some last_counter
-    else (if nat_lt s.area (first_gate (text_length (table_of s)) + GATE) then Some area_full else None)
+    else (if nat_lt s.area (first_gate (text_length (table_of s)) + gate_length) then Some area_full else None)
 
 abbrev pub refusal_of_begin : {D : Type 0} → StoreState D → Option Refusal
 refusal_of_begin s =
@@ -39,7 +39,7 @@ refusal_of_begin s =
 
 -- what a checkpoint writes: the head of an area, and the text of the table of all entries
 abbrev pub checkpoint_length : {D : Type 0} → StoreState D → ℕ
-checkpoint_length s = HEAD + text_length (table_of s)
+checkpoint_length s = head_length + text_length (table_of s)
 
 -- the text of the table of all entries is taken, and nothing of it is written yet
 abbrev pub taken : {D : Type 0} → StoreState D → Checkpoint
@@ -83,10 +83,10 @@ since s checkpoint = commands_of (drop checkpoint.place s.history)
 -- none.
 abbrev pub gate_after : ℕ → List Command → ℕ
 gate_after text [] = first_gate text
-gate_after text (command ∷ commands) = first_gate text + FRAME + batch_length (command ∷ commands)
+gate_after text (command ∷ commands) = first_gate text + frame_length + batch_length (command ∷ commands)
 
 abbrev pub has_no_room : {D : Type 0} → StoreState D → Checkpoint → Bool
-has_no_room s checkpoint = nat_lt s.area (gate_after checkpoint.text (since s checkpoint) + GATE)
+has_no_room s checkpoint = nat_lt s.area (gate_after checkpoint.text (since s checkpoint) + gate_length)
 
 abbrev pub refusal_of_last : {D : Type 0} → StoreState D → Option Checkpoint → Option Refusal
 refusal_of_last s None = Some checkpoint_order

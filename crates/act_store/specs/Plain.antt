@@ -8,14 +8,13 @@ use Rattle.wf_value.specs.declared.refusal.Refusal.{Refusal}
 use Rattle.wf_value.specs.declared.refusal.Refusal.TheVariants.{Numbered}
 use Rattle.wf_value.specs.Gives.{no_memory}
 use Rattle.act_disk.specs.Failed.{device_failed}
-use Rattle.gated_journal.specs.declared.lengths.TheConstants.{FRAME, GATE}
+use Rattle.gated_journal.specs.Lengths.{frame_length, gate_length}
 use Rattle.run_plan.specs.declared.command.Command.{Command}
 use Rattle.table_model.specs.Step.{empty, stepped}
 use Rattle.command_encodings.specs.Commands.{batch}
 use Rattle.act_store.specs.Layouts.{has_command}
 use Rattle.act_store.specs.StoreState.{StoreState, pending_commands, table_of}
 use Rattle.act_store.specs.declared.entry.Entry.{Entry}
-use Rattle.act_store.specs.declared.init.TheConstants.{USED}
 use Rattle.act_store.specs.declared.layout.Layout.TheVariants as layouts
 use Rattle.act_store.specs.declared.receipt.Receipt.{Receipt}
 
@@ -44,11 +43,11 @@ batch_length commands = length (batch.encoding commands)
 -- The end of a record of these commands: an open gate, the length, the batch, and the next gate. An entry is accepted only
 -- if its record fits, so a commit never fails for lack of space.
 abbrev pub record_end : {D : Type 0} → StoreState D → List Command → ℕ
-record_end s commands = s.used + FRAME + batch_length commands + GATE
+record_end s commands = s.used + frame_length + batch_length commands + gate_length
 
 -- the bytes that the next record may take beside its frame and the gate after it
 abbrev pub room_in : {D : Type 0} → StoreState D → ℕ
-room_in s = s.area - s.used - (GATE + FRAME)
+room_in s = s.area - s.used - (gate_length + frame_length)
 
 -- ---- apply
 
@@ -81,7 +80,7 @@ refusal_of_commit s = if s.failed then Some failed_earlier else None
 
 -- the offset of the next record once the pending entries are in one
 abbrev pub used_after : {D : Type 0} → StoreState D → ℕ
-used_after s = s.used + FRAME + batch_length (pending_commands s)
+used_after s = s.used + frame_length + batch_length (pending_commands s)
 
 -- all entries are covered
 abbrev pub committed : {D : Type 0} → StoreState D → D → StoreState D
@@ -108,8 +107,11 @@ turned_over s = record s { base = table_of s; history = []; covered = 0 }
 abbrev pub disk_not_empty : Refusal
 disk_not_empty = Numbered DiskNotEmpty
 
--- A store created on an empty disk, in the second layout. The first record's gate in the first area follows its own gate, its head and the
--- text of the empty table.
+-- the offset of the first record's gate in a new area, after the area's own gate, its head and the text of the empty table
+abbrev pub first_record : ℕ
+first_record = 30
+
+-- A store created on an empty disk, in the second layout.
 abbrev pub fresh : {D : Type 0} → D → ℕ → StoreState D
 fresh disk area = record {
   disk = disk;
@@ -117,7 +119,7 @@ fresh disk area = record {
   base = empty;
   history = [];
   covered = 0;
-  used = USED;
+  used = first_record;
   generation = 1;
   layout = layouts.Second;
   begun = None;

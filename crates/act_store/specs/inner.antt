@@ -2,6 +2,7 @@
 pub mod Encoded
 pub mod LastPart
 pub mod Opened
+pub mod PendingRecord
 pub mod Promise
 pub mod Replayed
 pub mod StoreSeen

@@ -7,9 +7,8 @@ ghost use Rattle.table_model.specs.Step.{stepped};
 ghost use Rattle.command_encodings.specs.Commands.{IsEncoded, command_bytes};
 ghost use Rattle.act_store.specs.StoreState.{RecoversToEither};
 ghost use Rattle.act_store.specs.Plain.{entered, receipt_of, refusal_of_apply};
-ghost use Rattle.act_store.specs.PendingBatch.{with_command};
+ghost use Rattle.act_store.specs.PendingBatch.{count_length, with_command};
 ghost use Rattle.act_store.specs.LaterEntries.{with_encoded};
-ghost use Rattle.act_store.specs.declared.pending_batch.TheConstants.{COUNT};
 
 use crate::begun::{Begun, add_encoding, take_off};
 use crate::entry::Entry;
@@ -110,7 +109,7 @@ fn enter(
     command: Command,
 ) -> Result<Reply, Refusal>
     requires few { pending_batch.old.count + 1 < 2 ^ 32 }
-    requires fits { COUNT + length pending_batch.old.encoded + length (command_bytes command) < 2 ^ 32 }
+    requires fits { count_length + length pending_batch.old.encoded + length (command_bytes command) < 2 ^ 32 }
     ensures reply { IfOk result (λ reply. reply ≡ (stepped table.old command).reply) }
     ensures table { IfOk result (λ _. table.new ≡ (stepped table.old command).table) }
     ensures history { IfOk result (λ _. history.new.items ≡ history.old.items
@@ -144,7 +143,7 @@ fn make_room(
     command: &Command,
 ) -> Result<(), Refusal>
     requires few { pending_batch.old.count + 1 < 2 ^ 32 }
-    requires fits { COUNT + length pending_batch.old.encoded + length (command_bytes command.now) < 2 ^ 32 }
+    requires fits { count_length + length pending_batch.old.encoded + length (command_bytes command.now) < 2 ^ 32 }
     ensures room { OnOk result (vec_len history.new < vec_capacity history.new) }
     ensures pending_batch { OnOk result (pending_batch.new ≡ with_command pending_batch.old command.now) }
     ensures encoded { OnOk result (IsEncoded command.now) }

@@ -3,6 +3,7 @@ ghost use Rattle.wf_value.specs.Gives.{no_memory};
 ghost use Rattle.act_disk.specs.Failed.{device_failed};
 ghost use Rattle.definitions.specs.Disk.{EachSince};
 ghost use Rattle.definitions.specs.Area.{head_bytes};
+ghost use Rattle.gated_journal.specs.Lengths.{gate_length};
 ghost use Rattle.table_model.specs.Sound.{IsSound};
 ghost use Rattle.table_text.specs.Tables.{whole_table};
 ghost use Rattle.act_store.specs.Checkpoints.{begun_at, first_gate, refusal_of_begin, text_length, checkpoint_length};
@@ -106,7 +107,7 @@ impl<D: Disk> Store<D> {
 
     /// The length of the text of the current table, if it fits an area.
     fn text_that_fits(&self) -> Option<u64>
-        ensures fits { is_some result ≡ not (nat_lt self.now.area (first_gate (text_length (table_of self.now)) + GATE)) }
+        ensures fits { is_some result ≡ not (nat_lt self.now.area (first_gate (text_length (table_of self.now)) + gate_length)) }
         ensures text { IfSome result (λ text. text ≡ text_length (table_of self.now)) }
     {
         // More runners cannot be encoded; their text would not fit.

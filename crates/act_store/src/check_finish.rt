@@ -1,6 +1,7 @@
 ghost use Rattle.std.specs.Prelude.{◌≡◌, ◌⊎◌, ◌↔◌, ◌+◌, ◌≤◌, ℕ, List, drop, flat_map, length, not, Err, IfErr, IfOk, IfSome, OnOk, Some};
 ghost use Rattle.act_disk.specs.Failed.{device_failed};
 ghost use Rattle.definitions.specs.Disk.{EachSince};
+ghost use Rattle.gated_journal.specs.Lengths.{head_length};
 ghost use Rattle.command_encodings.specs.Commands.{command_bytes};
 ghost use Rattle.act_store.specs.Entries.{commands_of};
 ghost use Rattle.act_store.specs.Checkpoints.{IsFinished, dropped, has_no_room, refusal_of_finish};
@@ -122,7 +123,7 @@ impl<D: Disk> Store<D> {
     /// Whether the record of the entries since a checkpoint was begun fits after its text.
     fn last_fits(&self, begun: &Begun) -> bool
         requires place { begun.now.place ≤ length self.now.history }
-        requires head { HEAD ≤ length begun.now.head_and_text.items }
+        requires head { head_length ≤ length begun.now.head_and_text.items }
         requires fits { 2 + length begun.now.head_and_text.items ≤ self.now.area }
         requires later { begun.now.last.encoded ≡ flat_map command_bytes (commands_of (drop begun.now.place self.now.history)) }
         ensures { result ≡ not (has_no_room self.now (as_checkpoint begun.now)) }

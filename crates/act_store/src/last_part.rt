@@ -1,6 +1,6 @@
 ghost use Rattle.std.specs.Prelude.{◌≡◌, ◌+◌, ◌-◌, ◌<◌, ◌≤◌, ◌^◌, [], ◌++◌, drop, length, slice_set, take, IfOk, OnErr, OnOk};
+ghost use Rattle.act_store.specs.PendingBatch.{count_length};
 ghost use Rattle.act_store.specs.inner.LastPart.{front_bytes, front_of, written_part};
-ghost use Rattle.act_store.specs.declared.pending_batch.TheConstants.{COUNT};
 
 use crate::pending_batch::COUNT;
 use gated_journal::OPEN;
@@ -78,7 +78,7 @@ impl LastPart {
     /// Fills in what precedes the commands, whose number is `count`.
     pub(crate) fn fill_in(&mut self, count: usize)
         requires few { count < 2 ^ 32 }
-        requires short { COUNT + length self.old.encoded < 2 ^ 32 }
+        requires short { count_length + length self.old.encoded < 2 ^ 32 }
         ensures { self.new ≡ record self.old { front = front_of count self.old.encoded } }
     {
         let body = self.bytes.len() - EMPTY + COUNT as usize;

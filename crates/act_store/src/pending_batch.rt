@@ -3,10 +3,12 @@ ghost use Rattle.std.specs.Prelude.{IfOk, IfSome, OnErr, OnOk, None};
 ghost use Rattle.std.specs.Int.{to_be_bytes, w32};
 ghost use Rattle.wf_value.specs.Gives.{no_memory};
 ghost use Rattle.gated_journal.specs.Appends.{body_in, record_of};
+ghost use Rattle.gated_journal.specs.Lengths.{body_number_length, frame_length};
 ghost use Rattle.run_plan.specs.declared.command.Command.{Command};
 ghost use Rattle.command_encodings.specs.Commands.{IsEncoded, command_bytes};
 ghost use Rattle.act_store.specs.Plain.{batch_length};
-ghost use Rattle.act_store.specs.PendingBatch.{CountsFew, IsWithCommand, body_held, body_of, encoded_between, encoded_in, batch_state_of, with_command};
+ghost use Rattle.act_store.specs.PendingBatch.{batch_state_of, body_of, count_length, with_command};
+ghost use Rattle.act_store.specs.inner.PendingRecord.{CountsFew, IsWithCommand, body_held, encoded_between, encoded_in};
 
 use gated_journal::Record;
 use gated_journal::lengths::{FRAME, LENGTH};
@@ -37,7 +39,8 @@ pub struct PendingBatch {
 }
 
 impl Model for PendingBatch {
-    ghost use Rattle.act_store.specs.PendingBatch.{IsRecordOf, BatchState, encoded_in};
+    ghost use Rattle.act_store.specs.PendingBatch.{BatchState};
+    ghost use Rattle.act_store.specs.inner.PendingRecord.{IsRecordOf, encoded_in};
 
     ghost Value = { BatchState };
 
@@ -118,7 +121,7 @@ impl PendingBatch {
     /// Adds a command. Running out of memory changes nothing.
     pub(crate) fn add(&mut self, alloc: Global, command: &Command) -> Result<(), Refusal>
         requires few { self.old.count + 1 < 2 ^ 32 }
-        requires fits { COUNT + length self.old.encoded + length (command_bytes command.now) < 2 ^ 32 }
+        requires fits { count_length + length self.old.encoded + length (command_bytes command.now) < 2 ^ 32 }
         ensures added { OnOk result (self.new ≡ with_command self.old command.now) }
         ensures encoded { OnOk result (IsEncoded command.now) }
         ensures unchanged { OnErr result (self.new ≡ self.old) }
@@ -151,8 +154,8 @@ impl PendingBatch {
 
 /// The bytes of a record, or of one without commands if there is none.
 fn bytes_of(alloc: Global, held: Option<Record>) -> Result<Vec<u8>, AllocError>
-    requires { IfSome held (λ body. COUNT ≤ length body) }
-    ensures long { IfOk result (λ bytes. vec_len bytes ≡ FRAME + COUNT + length (encoded_in held)) }
+    requires { IfSome held (λ body. count_length ≤ length body) }
+    ensures long { IfOk result (λ bytes. vec_len bytes ≡ frame_length + count_length + length (encoded_in held)) }
     ensures body { IfOk result (λ bytes. body_in bytes.items ≡ body_held held) }
     ensures none { OnErr result (held ≡ None) }
 {
@@ -164,7 +167,7 @@ fn bytes_of(alloc: Global, held: Option<Record>) -> Result<Vec<u8>, AllocError>
 
 /// Adds a command to the batch between a record's length and its gate. Running out of memory changes nothing.
 fn append(bytes: &mut Vec<u8>, command: &Command) -> Result<(), Refusal>
-    requires long { FRAME + COUNT ≤ vec_len bytes.old }
+    requires long { frame_length + count_length ≤ vec_len bytes.old }
     requires counted { CountsFew (body_in bytes.old.items) }
     ensures longer { OnOk result (vec_len bytes.new ≡ vec_len bytes.old + length (command_bytes command.now)) }
     ensures added { OnOk result (IsWithCommand (body_in bytes.old.items) command.now (body_in bytes.new.items)) }
@@ -183,8 +186,8 @@ fn append(bytes: &mut Vec<u8>, command: &Command) -> Result<(), Refusal>
 
 /// The record with this count whose encodings are the bytes between the count and the gate.
 fn record_with(bytes: Vec<u8>, count: u32) -> Record
-    requires long { FRAME + COUNT ≤ vec_len bytes }
-    requires short { vec_len bytes < 2 ^ 32 + FRAME }
+    requires long { frame_length + count_length ≤ vec_len bytes }
+    requires short { vec_len bytes < 2 ^ 32 + frame_length }
     ensures { result ≡ to_be_bytes w32 count ++ encoded_between bytes.items }
 {
     let mut bytes = bytes;
@@ -193,8 +196,8 @@ fn record_with(bytes: Vec<u8>, count: u32) -> Record
 }
 
 fn write_count(bytes: &mut [u8], count: u32)
-    requires { LENGTH + COUNT ≤ length bytes.old }
-    ensures { bytes.new ≡ take LENGTH bytes.old ++ (to_be_bytes w32 count ++ drop (LENGTH + COUNT) bytes.old) }
+    requires { body_number_length + count_length ≤ length bytes.old }
+    ensures { bytes.new ≡ take body_number_length bytes.old ++ (to_be_bytes w32 count ++ drop (body_number_length + count_length) bytes.old) }
 {
     bytes[COUNT_AT..COUNT_AT + COUNT as usize].copy_from_slice(&count.to_be_bytes());
 }

@@ -4,7 +4,7 @@ use Rattle.std.specs.Int.{to_be_bytes, w32}
 use Rattle.definitions.specs.Area.{record_bytes}
 use Rattle.run_plan.specs.declared.command.Command.{Command}
 use Rattle.command_encodings.specs.Commands.{batch}
-use Rattle.act_store.specs.declared.pending_batch.TheConstants.{COUNT}
+use Rattle.act_store.specs.PendingBatch.{count_length}
 
 abbrev pub bodies_of : List Command → List (List ℕ)
 bodies_of [] = []
@@ -26,7 +26,7 @@ front_bytes body count = 0xA5 ∷ (to_be_bytes w32 body ++ to_be_bytes w32 count
 
 -- what precedes so many commands with these encodings
 abbrev pub front_of : ℕ → List ℕ → List ℕ
-front_of count encoded = front_bytes (COUNT + length encoded) count
+front_of count encoded = front_bytes (count_length + length encoded) count
 
 -- what is written: without commands the gate alone
 abbrev pub written_with : List ℕ → List ℕ → List ℕ

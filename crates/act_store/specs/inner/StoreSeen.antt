@@ -1,5 +1,6 @@
 -- What contracts see of a store's fields.
 use Rattle.std.specs.Prelude.{◌-◌, length, option_map}
+use Rattle.gated_journal.specs.Lengths.{head_length}
 use Rattle.act_store.specs.StoreState.{Checkpoint, StoreState}
 use Rattle.act_store.specs.declared.begun.Begun.{Begun}
 use Rattle.act_store.specs.declared.store.Store.TheInside.{Inside}
@@ -8,7 +9,7 @@ use Rattle.act_store.specs.declared.store.Store.TheInside.{Inside}
 abbrev pub as_checkpoint : Begun → Checkpoint
 as_checkpoint b = record {
   place = b.place;
-  text = length b.head_and_text.items - 17;
+  text = length b.head_and_text.items - head_length;
   left = length b.head_and_text.items - b.put;
 }
 

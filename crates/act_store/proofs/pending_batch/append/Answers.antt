@@ -3,7 +3,7 @@ use Rattle.std.specs.Prelude.{vec_len}
 use Rattle.std.proofs.lemmas.Result.{on_ok_weaker}
 use Rattle.gated_journal.specs.Appends.{body_in}
 use Rattle.command_encodings.specs.Commands.{command_bytes}
-use Rattle.act_store.specs.PendingBatch.{IsWithCommand}
+use Rattle.act_store.specs.inner.PendingRecord.{IsWithCommand}
 use Rattle.act_store.proofs.Records.{Counts, body_longer, longer_by}
 use Rattle.act_store.proofs.pending_batch.append.Goals as goal
 

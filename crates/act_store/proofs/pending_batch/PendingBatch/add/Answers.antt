@@ -1,7 +1,8 @@
 use Rattle.std.proofs.Common.{◌≡◌, ◌∙◌, ◌+◌, ◌<◌, List, ℕ, ◌++◌, drop, ap, arith, subst, sym}
 use Rattle.gated_journal.specs.Appends.{body_in}
 use Rattle.command_encodings.specs.Commands.{command_bytes}
-use Rattle.act_store.specs.PendingBatch.{BatchState, IsWithCommand, body_held, encoded_in, with_command}
+use Rattle.act_store.specs.PendingBatch.{BatchState, with_command}
+use Rattle.act_store.specs.inner.PendingRecord.{IsWithCommand, body_held, encoded_in}
 use Rattle.act_store.proofs.Records.{encoded_longer}
 use Rattle.act_store.proofs.pending_batch.PendingBatch.add.Goals as goal
 
