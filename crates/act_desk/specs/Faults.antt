@@ -28,17 +28,17 @@ abbrev pub IsReconciled : {D : Type 0} → Settled D → Type 0
 IsReconciled s = IsSettled s.transcripts.items s.store.history × AreCovered s.transcripts.items (take s.store.covered s.store.history)
 
 -- What each fault says about its arguments. Either they are returned unchanged. Or all sessions have ended, and the history is not what they
--- submitted, or an answered command is not covered. Or the history is what they submitted, and a reader or writer has failed.
+-- submitted, or an answered command is not covered. Or it is, each answered command is covered, and a reader or writer has failed.
 abbrev pub IsUnsettledOrBroken : {D W : Type 0} → Settled D → Fault D W → Type 0
 IsUnsettledOrBroken given (Memory store works) = ⊥
 IsUnsettledOrBroken given (Unsettled settled) = (settled ≡ given) × (IsReconciled settled → ⊥)
 IsUnsettledOrBroken given (Broken settled) =
-    (settled ≡ given) × IsSettled settled.transcripts.items settled.store.history × (NoneBroken settled.transcripts.items → ⊥)
+    (settled ≡ given) × IsReconciled settled × (NoneBroken settled.transcripts.items → ⊥)
 
 abbrev pub IsCause : {D W : Type 0} → (W → Transcript → Type 0) → StoreState D → List W → Fault D W → Type 0
 IsCause ends given works (Memory store left) = (store ≡ given) × (left.items ≡ works)
 IsCause ends given works (Unsettled settled) =
     HaveEnded ends works settled.transcripts.items × (IsReconciled settled → ⊥) × (settled.store.base ≡ given.base)
 IsCause ends given works (Broken settled) =
-    HaveEnded ends works settled.transcripts.items × IsSettled settled.transcripts.items settled.store.history
-    × (NoneBroken settled.transcripts.items → ⊥) × (settled.store.base ≡ given.base)
+    HaveEnded ends works settled.transcripts.items × IsReconciled settled × (NoneBroken settled.transcripts.items → ⊥)
+    × (settled.store.base ≡ given.base)

@@ -3,6 +3,7 @@ ghost use Rattle.act_desk.specs.Settled.{HasEnded};
 use crate::checkpoints::flusher;
 use crate::desk::Desk;
 use crate::ended::Ended;
+use crate::flusher_desk::FlusherDesk;
 use crate::gate::Gate;
 use crate::named::Named;
 use crate::seat::Seat;
@@ -53,7 +54,7 @@ impl<'a, D: Disk, E: Named, T: Ledger, G: Gate, R: Wait + Clock> Host<Seat<E, T>
 
     /// A device fault ends the flusher; the answers of the sessions report it.
     fn flush(&self, stop: &Mutex<bool>) {
-        let _ = flusher(self.rt, self.alloc, self.desk, stop);
+        let _ = flusher(self.rt, self.alloc, &FlusherDesk::new(self.desk, stop));
     }
 
     fn stop_flushing(&self, stop: &Mutex<bool>) {

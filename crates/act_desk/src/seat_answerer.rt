@@ -1,6 +1,9 @@
-ghost use Rattle.std.specs.Prelude.{◌≡◌, ◌≤◌, IfErr, IfOk};
+ghost use Rattle.std.specs.Prelude.{◌≡◌, ◌⊎◌, ◌≤◌, IfErr, IfOk};
 ghost use mathlib.Core.List.{IsPrefix};
+ghost use Rattle.wf_value.specs.Gives.{no_memory};
+ghost use Rattle.act_disk.specs.Failed.{device_failed};
 ghost use Rattle.act_sessions.specs.Exchange.{Submits};
+ghost use Rattle.act_store.specs.Plain.{area_full, failed_earlier, history_full, old_layout};
 ghost use Rattle.act_desk.specs.Answered.{unsettled};
 ghost use Rattle.act_desk.specs.Begins.{IsCoveredAfter};
 ghost use Rattle.act_desk.specs.Events.{covered_in, told_in};
@@ -31,7 +34,7 @@ pub(crate) struct Noted {
 
 /// Answers at a desk from a seat, and calls the gate before and after each command.
 /// Promise (One history for all sessions): Each answer that a session gets at its seat is as `submit` says
-/// By: `act_desk::seat_answerer::SeatAnswerer`, `act_sessions::Answer::ask` (`covered`, `excess`, `seen`)
+/// By: `act_desk::seat_answerer::SeatAnswerer`, `act_sessions::Answer::ask` (`covered`, `cause`, `excess`, `seen`)
 #[derive(Drop)]
 pub(crate) struct SeatAnswerer<'a, D: Disk, E: Named, T: Ledger, G: Gate, R: Wait + Clock> {
     rt: &'a R,
@@ -63,6 +66,7 @@ impl<'a, D: Disk, E: Named, T: Ledger, G: Gate, R: Wait + Clock> Answer
         ensures reply { IfOk result (λ reply. IsReplyTo command reply) }
         ensures covered { IfOk result (λ reply. IsCoveredAfter self.old.seat.seen self.new.seat.seen
             (record { seat = self.old.seat.number; command = command; reply = reply })) }
+        ensures cause { IfErr result (λ e. (e ≡ no_memory) ⊎ (e ≡ history_full) ⊎ (e ≡ old_layout) ⊎ (e ≡ area_full) ⊎ (e ≡ failed_earlier) ⊎ (e ≡ device_failed) ⊎ (e ≡ unsettled)) }
         ensures excess { IfErr result (λ e. e ≡ unsettled → covered_in self.new.seat.seen ≤ told_in self.new.seat.seen) }
         ensures seen { (self.new.seat.number ≡ self.old.seat.number) × IsPrefix self.old.seat.seen self.new.seat.seen }
     {

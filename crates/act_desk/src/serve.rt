@@ -48,7 +48,7 @@ use std::time::Clock;
 /// By: `act_desk::serve_all`, `served` (`AreCovered`), `recovers`
 /// Refusal (The store and the desk): `act_desk::serve_all`
 /// When: 50: before any session is started. 61: only if a session was ended by its reader or writer
-/// Afterwards: after 50 store and sessions are given back; after 61 store and transcripts, over the same base: the history is what was asked
+/// Afterwards: after 50 store and sessions are given back; after 61 store and transcripts: over the same base, as asked, each reply covered
 /// By: `cause` (`IsCause`, `IsReconciled`), `served`
 /// Refusal (The store and the desk): `act_desk::serve_all`
 /// When: 60: exactly if the sessions have ended and history and transcripts differ, an answer is none that is allowed, or a reply is not among
