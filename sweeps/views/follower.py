@@ -73,7 +73,7 @@ class Known:
             self.legs[line['run'], line['job'], line['leg']] = Leg(line['attempt'], line['state'], line['lease'], line['runner'])
         elif 'delivery' in line:
             self._begin({name: value for name, value in line.items() if name not in ('after', 'at')})
-        else:
+        elif 'status' in line:
             self.rows[line['run']].update({name: line[name] for name in ('attempt', 'status', 'conclusion')})
 
     def _begin(self, row: Json) -> None:

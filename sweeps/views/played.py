@@ -22,6 +22,10 @@ class Wrong(Exception):
     """An answer that is not as it has to be."""
 
 
+class Table(shown.Displacing, plain.Table):
+    """A table that notes what is displaced."""
+
+
 class Viewed(served.Forever):
     """A service with a view port."""
 
@@ -48,7 +52,7 @@ class Play:
     def __init__(self, service, seed, made=None):
         self.service, self.made, self.dice = service, made or scripts.Script(seed), random.Random(f'views {seed}')
         self.store = self.made.store
-        self.table = self.store.table
+        self.table = self.store.table = self.made.table = Table()
         self.hook, self.runner = service.hook(), service.runner()
         self.asked, self.refused, self.entries = 0, {}, []
         self.compared = self.listed = 0

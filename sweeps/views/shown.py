@@ -220,17 +220,44 @@ def legs_now(table, run, names):
     return {(run.plan[job].name, place): (leg.phase, leg.lease or None, leg_runner(table, leg, names)) for job, place, leg in legs_of(run)}
 
 
+class Displacing:
+    """A table that notes which runs, in which attempts, arrivals in their groups have ended or asked to stop. Before `plain.Table` among the bases of a class."""
+
+    def __init__(self):
+        super().__init__()
+        self.displaced = set()
+
+    def arrive(self, newcomer, group, cancels):
+        before = [(run, run.phase, run.stops) for run in self.runs]
+        super().arrive(newcomer, group, cancels)
+        self.displaced.update((run.place, run.attempt) for run, *was in before if was != [run.phase, run.stops])
+
+
+def next_in_group(table, run):
+    """The other run or leg that is pending in the group of a run, or else in progress."""
+    others = sorted((it for it in table.holders(run.group) if it is not run), key=lambda it: it.phase != 'waiting')
+    if not others:
+        return None
+    for other in table.runs:
+        for job, place, leg in legs_of(other):
+            if leg is others[0]:
+                return {'run': other.place, 'attempt': other.attempt, 'job': other.plan[job].name, 'leg': place}
+    return {'run': others[0].place, 'attempt': others[0].attempt, 'job': None, 'leg': None}
+
+
 class Told:
     """What the lines of `/changes` have told of each run: its attempt, status and conclusion, and the state and lease of its legs."""
 
     def __init__(self):
         self.runs = {}
 
-    def news(self, table, names):
-        """What is told of a table, without place and time: each run that begins an attempt or is not as it was told, and then its legs that are not."""
-        return [line for run in table.runs for line in self.news_of(table, run, names)]
+    def news(self, table, names, cancelled=()):
+        """What is told of a table, without place and time: each run that begins an attempt or is not as it was told; that arrivals have displaced it since, where
+        no command of the same commit has cancelled it; and then its legs that are not as they were told."""
+        displaced, table.displaced = {place: attempt for place, attempt in sorted(table.displaced) if place not in cancelled}, set()
+        return [line for run in table.runs for line in self.news_of(table, run, names, displaced.get(run.place) == run.attempt)]
 
-    def news_of(self, table, run, names):
+    def news_of(self, table, run, names, is_displaced):
         attempt, *state = self.runs.get(run.place, (0,))
         now, legs = (status(run), conclusion(run)), legs_now(table, run, names)
         is_begun = attempt != run.attempt
@@ -241,6 +268,8 @@ class Told:
             made.append(row(run))
         elif now != tuple(state[:2]):
             made.append({'run': run.place, 'attempt': run.attempt, 'status': now[0], 'conclusion': now[1]})
+        if is_displaced:
+            made.append({'run': run.place, 'attempt': run.attempt, 'displaced_by': next_in_group(table, run)})
         told = {} if is_begun else state[2]
         for (job, place), (phase, lease, runner) in legs.items():
             if told.get((job, place)) != (phase, lease):

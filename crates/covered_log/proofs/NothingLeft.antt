@@ -4,9 +4,9 @@ use Rattle.std.proofs.lemmas.Bool.{eq-eqb}
 use Rattle.std.proofs.lemmas.Bool.Decides.{nat_tests}
 use Rattle.std.proofs.lemmas.Option.{slice_get-map}
 use Rattle.std.proofs.lemmas.Slice.Eq.{bytes_eq-Decides}
-use Rattle.std.specs.List.{enumerate_from, flat_map}
+use Rattle.std.specs.List.{enumerate_from, flat_map, list_any}
 use Rattle.std.specs.Option.{option_map_or}
-use Rattle.std.specs.Prelude.{Bool, true, false, ◌&&◌, ◌==◌, ◌⊎◌, None, Option, Some, drop, nat_eq, option_and_then, option_map, slice_get, if◌then◌else◌}
+use Rattle.std.specs.Prelude.{Bool, true, false, ◌&&◌, ◌||◌, ◌==◌, ◌⊎◌, None, Option, Some, drop, nat_eq, not, option_and_then, option_map, slice_get, if◌then◌else◌}
 use Rattle.std.specs.Str.{bytes_eq}
 use Rattle.table_model.specs.Runs.{JobState, LegState, RunState, leg_site, placed}
 use Rattle.table_model.specs.TableState.{TableState}
@@ -15,7 +15,8 @@ use Rattle.table_model.specs.declared.phases.RunPhase.TheVariants as phase
 use Rattle.table_views.specs.LeaseNames.{NamesState}
 use Rattle.table_views.specs.RunViews.{leg_news}
 use Rattle.table_views.specs.declared.told_legs.LegNews.{LegNews}
-use Rattle.covered_log.specs.Standings.{Standing, is_over, is_same, is_same_leg, is_same_lease, job_site, legs_to_keep, moved_leg, moved_legs, moved_of_job, moved_run, news_of, of_legs, run_news, standing_of, table_news, told_after, told_leg, told_of}
+use Rattle.covered_log.specs.Lines.{Change, Displaced}
+use Rattle.covered_log.specs.Standings.{Standing, displaced_news, is_displaced, is_over, is_same, is_same_leg, is_same_lease, is_stopped, is_told, job_site, knows_stop, legs_to_keep, moved_leg, moved_legs, moved_of_job, moved_run, news_of, of_legs, run_news, standing_of, table_news, told_after, told_leg, told_of}
 
 -- ---- what is told of each element with its index
 
@@ -73,6 +74,14 @@ same_leg leg = rw (same_text, same_lease leg.lease) refl
 same_run : (run : RunState) → is_same (standing_of run) run ≡ true
 same_run run = rw (same_number run.attempt, same_text, same_text) refl
 
+-- a run that is told with its stop
+same_stop : (run : RunState) → knows_stop (standing_of run) run ≡ true
+same_stop run = by (is_stopped run) (same_number run.attempt)
+  where
+    by : (stopped : Bool) → (run.attempt == run.attempt) ≡ true → (not stopped || (stopped && run.attempt == run.attempt)) ≡ true
+    by true same = same
+    by false same = refl
+
 -- a leg that is told as it stands
 stays_told : (names : NamesState) (t : TableState) (s : Standing) (attempt : ℕ) (r j l : ℕ) (leg : LegState)
     → told_leg s attempt (leg_site r j l) ≡ Some leg → moved_leg names t s attempt (leg_site r j l) leg ≡ []
@@ -99,36 +108,56 @@ told_legs_stay names t r run keeps =
 
 -- ---- nothing is left to tell
 
+-- what it was told as
+record IsAsTold (names : NamesState) (t : TableState) (s : Standing) (r : ℕ) (run : RunState) : Type 0 where
+  pub same : is_same s run ≡ true
+  pub stop : knows_stop s run ≡ true
+  pub legs : moved_legs names t s r run ≡ []
+
+-- what is told where an attempt is not over
+abbrev of_all : ℕ → List ℕ → NamesState → TableState → Standing → ℕ → RunState → List Change
+of_all at cancelled names t s r run =
+    run_news at t s r run ++ displaced_news at cancelled t s r run ++ of_legs at (moved_legs names t s r run)
+
+all_is_told : (at : ℕ) (cancelled : List ℕ) (names : NamesState) (t : TableState) (s : Standing) (r : ℕ) (run : RunState)
+    → IsAsTold names t s r run → of_all at cancelled names t s r run ≡ []
+all_is_told at cancelled names t s r run told =
+    ap (λ (b : Bool). (if b then [] else moved_run at t s r run ∷ []) ++ displaced_news at cancelled t s r run ++ of_legs at (moved_legs names t s r run))
+    told.same
+    ∙ ap (λ (b : Bool). (if not b && not (list_any (nat_eq (r + 1)) cancelled) then Displaced at t.runs (r + 1) run ∷ [] else [])
+    ++ of_legs at (moved_legs names t s r run)) told.stop
+    ∙ ap (of_legs at) told.legs
+
 -- of a run that was told as completed, or as it stands with its legs
-no_news : (at : ℕ) (names : NamesState) (t : TableState) (s : Standing) (r : ℕ) (run : RunState)
-    → ((is_over s run ≡ true) ⊎ ((is_same s run ≡ true) × (moved_legs names t s r run ≡ []))) → news_of at names t (Some s) r run ≡ []
-no_news at names t s r run (inl over) =
-    ap (λ (b : Bool). if b then [] else run_news at t s r run ++ of_legs at (moved_legs names t s r run)) over
-no_news at names t s r run (inr (same, none)) =
-    let left : run_news at t s r run ++ of_legs at (moved_legs names t s r run) ≡ [] =
-    ap₂ (λ (b : Bool) (legs : List LegNews). (if b then [] else moved_run at t s r run ∷ []) ++ of_legs at legs) same none in
-    by (is_over s run) left
+no_news : (at : ℕ) (cancelled : List ℕ) (names : NamesState) (t : TableState) (s : Standing) (r : ℕ) (run : RunState)
+    → ((is_over s run ≡ true) ⊎ IsAsTold names t s r run) → news_of at cancelled names t (Some s) r run ≡ []
+no_news at cancelled names t s r run (inl over) = ap (λ (b : Bool). if b then [] else of_all at cancelled names t s r run) over
+no_news at cancelled names t s r run (inr told) = by (is_over s run) (all_is_told at cancelled names t s r run told)
   where
-    by : (b : Bool) → run_news at t s r run ++ of_legs at (moved_legs names t s r run) ≡ []
-        → (if b then [] else run_news at t s r run ++ of_legs at (moved_legs names t s r run)) ≡ []
+    by : (b : Bool) → of_all at cancelled names t s r run ≡ [] → (if b then [] else of_all at cancelled names t s r run) ≡ []
     by true left = refl
     by false left = left
 
 -- of a run that was told as it stands
-none_left_in : (at : ℕ) (names : NamesState) (t : TableState) (r : ℕ) (run : RunState) (p : RunPhase) → run.phase ≡ p
-    → news_of at names t (Some (standing_of run)) r run ≡ []
-none_left_in at names t r run phase.Waiting is =
-    let keeps : legs_to_keep run.phase run.jobs ≡ map (λ (j : JobState). j.legs) run.jobs = ap (λ (p : RunPhase). legs_to_keep p run.jobs) is in
-    no_news at names t (standing_of run) r run (inr (same_run run, told_legs_stay names t r run keeps))
-none_left_in at names t r run phase.Live is =
-    let keeps : legs_to_keep run.phase run.jobs ≡ map (λ (j : JobState). j.legs) run.jobs = ap (λ (p : RunPhase). legs_to_keep p run.jobs) is in
-    no_news at names t (standing_of run) r run (inr (same_run run, told_legs_stay names t r run keeps))
-none_left_in at names t r run phase.Ended is =
-    let over : is_over (standing_of run) run ≡ true = rw (is, same_number run.attempt) refl in
-    no_news at names t (standing_of run) r run (inl over)
+as_it_stands : (names : NamesState) (t : TableState) (r : ℕ) (run : RunState)
+    → legs_to_keep run.phase run.jobs ≡ map (λ (j : JobState). j.legs) run.jobs → IsAsTold names t (standing_of run) r run
+as_it_stands names t r run keeps = record { same = same_run run; stop = same_stop run; legs = told_legs_stay names t r run keeps }
 
-none_left : (at : ℕ) (names : NamesState) (t : TableState) (r : ℕ) (run : RunState) → news_of at names t (Some (standing_of run)) r run ≡ []
-none_left at names t r run = none_left_in at names t r run run.phase refl
+none_left_in : (at : ℕ) (cancelled : List ℕ) (names : NamesState) (t : TableState) (r : ℕ) (run : RunState) (p : RunPhase) → run.phase ≡ p
+    → news_of at cancelled names t (Some (standing_of run)) r run ≡ []
+none_left_in at cancelled names t r run phase.Waiting is =
+    let keeps : legs_to_keep run.phase run.jobs ≡ map (λ (j : JobState). j.legs) run.jobs = ap (λ (p : RunPhase). legs_to_keep p run.jobs) is in
+    no_news at cancelled names t (standing_of run) r run (inr (as_it_stands names t r run keeps))
+none_left_in at cancelled names t r run phase.Live is =
+    let keeps : legs_to_keep run.phase run.jobs ≡ map (λ (j : JobState). j.legs) run.jobs = ap (λ (p : RunPhase). legs_to_keep p run.jobs) is in
+    no_news at cancelled names t (standing_of run) r run (inr (as_it_stands names t r run keeps))
+none_left_in at cancelled names t r run phase.Ended is =
+    let over : is_over (standing_of run) run ≡ true = rw (is, same_number run.attempt) refl in
+    no_news at cancelled names t (standing_of run) r run (inl over)
+
+none_left : (at : ℕ) (cancelled : List ℕ) (names : NamesState) (t : TableState) (r : ℕ) (run : RunState)
+    → news_of at cancelled names t (Some (standing_of run)) r run ≡ []
+none_left at cancelled names t r run = none_left_in at cancelled names t r run run.phase refl
 
 both_true : (a b : Bool) → (a && b) ≡ true → (a ≡ true) × (b ≡ true)
 both_true true b is = (refl, is)
@@ -138,24 +167,30 @@ no_legs : (legs : List LegNews) → nat_eq (length legs) 0 ≡ true → legs ≡
 no_legs [] is = refl
 no_legs (leg ∷ legs) is = absurd (grind (arith, nat_tests, is))
 
-none_after : (at : ℕ) (names : NamesState) (t : TableState) (known : Option Standing) (r : ℕ) (run : RunState)
-    → news_of at names t (Some (told_of names t known r run)) r run ≡ []
-none_after at names t None r run = none_left at names t r run
-none_after at names t (Some s) r run =
-    by (is_over s run) (is_same s run && nat_eq (length (moved_legs names t s r run)) 0) refl refl
-  where
-    by : (over same : Bool) → is_over s run ≡ over → (is_same s run && nat_eq (length (moved_legs names t s r run)) 0) ≡ same
-        → news_of at names t (Some (if over then s else if same then s else standing_of run)) r run ≡ []
-    by true same over is = no_news at names t s r run (inl over)
-    by false true over is =
-        let both = both_true (is_same s run) (nat_eq (length (moved_legs names t s r run)) 0) is in
-        no_news at names t s r run (inr (both.0, no_legs (moved_legs names t s r run) both.1))
-    by false false over is = none_left at names t r run
+is_as_told : (names : NamesState) (t : TableState) (s : Standing) (r : ℕ) (run : RunState) → is_told names t s r run ≡ true
+    → IsAsTold names t s r run
+is_as_told names t s r run is =
+    let none : Bool = nat_eq (length (moved_legs names t s r run)) 0 in
+    let both = both_true (is_same s run) (knows_stop s run && none) is in
+    let others = both_true (knows_stop s run) none both.1 in
+    record { same = both.0; stop = others.0; legs = no_legs (moved_legs names t s r run) others.1 }
 
-pub nothing_left : (at : ℕ) (names : NamesState) (t : TableState) (known : List Standing) → table_news at names t (told_after names t known) ≡ []
-nothing_left at names t known =
+none_after : (at : ℕ) (cancelled : List ℕ) (names : NamesState) (t : TableState) (known : Option Standing) (r : ℕ) (run : RunState)
+    → news_of at cancelled names t (Some (told_of names t known r run)) r run ≡ []
+none_after at cancelled names t None r run = none_left at cancelled names t r run
+none_after at cancelled names t (Some s) r run = by (is_over s run) (is_told names t s r run) refl refl
+  where
+    by : (over told : Bool) → is_over s run ≡ over → is_told names t s r run ≡ told
+        → news_of at cancelled names t (Some (if over then s else if told then s else standing_of run)) r run ≡ []
+    by true told over is = no_news at cancelled names t s r run (inl over)
+    by false true over is = no_news at cancelled names t s r run (inr (is_as_told names t s r run is))
+    by false false over is = none_left at cancelled names t r run
+
+pub nothing_left : (at : ℕ) (cancelled : List ℕ) (names : NamesState) (t : TableState) (known : List Standing)
+    → table_news at cancelled names t (told_after names t known) ≡ []
+nothing_left at cancelled names t known =
     let f : ℕ × RunState → Standing = λ x. told_of names t (slice_get known x.0) x.0 x.1 in
-    none_placed (λ (x : ℕ × RunState). news_of at names t (slice_get (told_after names t known) x.0) x.0 x.1) t.runs
+    none_placed (λ (x : ℕ × RunState). news_of at cancelled names t (slice_get (told_after names t known) x.0) x.0 x.1) t.runs
     (λ r run is.
-    ap (λ (o : Option Standing). news_of at names t o r run) (told_at f t.runs (drop (length t.runs) known) r run is)
-    ∙ none_after at names t (slice_get known r) r run)
+    ap (λ (o : Option Standing). news_of at cancelled names t o r run) (told_at f t.runs (drop (length t.runs) known) r run is)
+    ∙ none_after at cancelled names t (slice_get known r) r run)

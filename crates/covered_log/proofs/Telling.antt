@@ -2,7 +2,7 @@
 use Rattle.std.proofs.Common.{◌≡◌, ◌∙◌, ◌≤◌, ◌<◌, ◌+◌, ℕ, zero, suc, List, [], ◌∷◌, ◌++◌, length, take, drop, map, set, get_or, refl, sym, ap, arith, append_assoc, length-take}
 use Rattle.std.proofs.lemmas.List.{drop-drop, drop_all, drop_at, drop_more, map-append, set_split, take-append-drop, take_all, take_at, take_more}
 use Rattle.std.proofs.lemmas.Option.{get_or_from_slice_get, slice_get_cases, slice_get_within}
-use Rattle.std.specs.Prelude.{Bool, false, true, ◌&&◌, None, Option, Some, nat_eq, slice_get, if◌then◌else◌}
+use Rattle.std.specs.Prelude.{Bool, false, true, None, Option, Some, slice_get, if◌then◌else◌}
 use Rattle.std.specs.Option.{option_map_or}
 use Rattle.table_model.proofs.StopKeeps.{length-placed}
 use Rattle.table_model.specs.Runs.{RunState, placed}
@@ -10,7 +10,7 @@ use Rattle.table_model.specs.TableState.{TableState}
 use Rattle.table_views.specs.LeaseNames.{NamesState}
 use Rattle.table_views.specs.declared.told_legs.LegNews.{LegNews}
 use Rattle.covered_log.specs.Lines.{Change, LegStands, with_all, with_more}
-use Rattle.covered_log.specs.Standings.{Standing, is_over, is_same, moved_legs, of_legs, standing_of, told_of}
+use Rattle.covered_log.specs.Standings.{Standing, is_over, is_told, of_legs, standing_of, told_of}
 
 -- ---- changes
 
@@ -99,7 +99,7 @@ pub over_stays : (names : NamesState) (t : TableState) (known : List Standing) (
 over_stays names t known r run is =
     let over = over_there (slice_get known r) run is in
     let same : over.0 ≡ told_of names t (slice_get known r) r run =
-    ap (λ (b : Bool). if b then over.0 else if is_same over.0 run && nat_eq (length (moved_legs names t over.0 r run)) 0 then over.0 else standing_of run)
+    ap (λ (b : Bool). if b then over.0 else if is_told names t over.0 r run then over.0 else standing_of run)
     (sym over.2)
     ∙ ap (λ (o : Option Standing). told_of names t o r run) (sym over.1) in
     stays known r over.0 over.1 ∙ ap (λ (s : Standing). take r known ++ s ∷ drop (r + 1) known) same

@@ -1,3 +1,4 @@
+pub mod Displaced
 pub mod KeptState
 pub mod Lines
 pub mod LogState

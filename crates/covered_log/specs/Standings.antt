@@ -1,6 +1,6 @@
 -- How runs and legs stood when they were last told, and what is told of them after a commit.
-use Rattle.std.specs.Prelude.{ℕ, ◌+◌, ◌==◌, ◌&&◌, List, [], ◌∷◌, ◌++◌, codes, drop, length, map, nat_eq, slice_get, Bool, true, false, Option, Some, None, option_and_then, if◌then◌else◌}
-use Rattle.std.specs.List.{flat_map}
+use Rattle.std.specs.Prelude.{ℕ, ◌+◌, ◌==◌, ◌&&◌, List, [], ◌∷◌, ◌++◌, codes, drop, length, map, nat_eq, not, slice_get, ◌||◌, Bool, true, false, Option, Some, None, option_and_then, if◌then◌else◌}
+use Rattle.std.specs.List.{flat_map, list_all, list_any}
 use Rattle.std.specs.Option.{option_map_or}
 use Rattle.std.specs.Str.{bytes_eq}
 use Rattle.table_model.specs.Runs.{JobState, LegState, RunState, leg_site, placed}
@@ -13,18 +13,30 @@ use Rattle.table_model.specs.declared.sites.LegSite.{LegSite}
 use Rattle.table_views.specs.LeaseNames.{NamesState}
 use Rattle.table_views.specs.RunViews.{leg_news}
 use Rattle.table_views.specs.declared.told_legs.LegNews.{LegNews}
-use Rattle.covered_log.specs.Lines.{Begins, Change, LegStands, Stands}
+use Rattle.covered_log.specs.Lines.{Begins, Change, Displaced, LegStands, Stands}
 
--- a run: its attempt, its status, its conclusion, or `-`, and the legs of its jobs
+-- a run: its attempt, its status, its conclusion, or `-`, whether it was stopped, and the legs of its jobs
 pub record Standing : Type 0 where
   pub attempt : ℕ
   pub status : List ℕ
   pub conclusion : List ℕ
+  pub stopped : Bool
   pub jobs : List (List LegState)
 
 -- a run of which nothing was told
 abbrev pub untold : Standing
-untold = record { attempt = 0; status = []; conclusion = []; jobs = [] }
+untold = record { attempt = 0; status = []; conclusion = []; stopped = false; jobs = [] }
+
+-- ---- whether a run was stopped: it has been asked to stop, or it ended as cancelled before it began, and so has no leg
+
+abbrev pub has_no_leg : JobState → Bool
+has_no_leg job = nat_eq (length job.legs) 0
+
+abbrev pub is_stopped : RunState → Bool
+is_stopped run =
+    run.stopping || (bytes_eq (conclusion_text run.phase run.jobs) (codes "cancelled") && list_all has_no_leg run.jobs)
+
+-- ---- how a run stands
 
 -- the legs of the jobs of a run that goes on
 abbrev pub legs_to_keep : RunPhase → List JobState → List (List LegState)
@@ -37,6 +49,7 @@ standing_of run = record {
   attempt = run.attempt;
   status = status_text run.phase run.jobs;
   conclusion = conclusion_text run.phase run.jobs;
+  stopped = is_stopped run;
   jobs = legs_to_keep run.phase run.jobs;
 }
 
@@ -51,6 +64,10 @@ abbrev pub is_same : Standing → RunState → Bool
 is_same s run =
     s.attempt == run.attempt
     && (bytes_eq s.status (status_text run.phase run.jobs) && bytes_eq s.conclusion (conclusion_text run.phase run.jobs))
+
+-- whether it was told as stopped in this attempt, if it is
+abbrev pub knows_stop : Standing → RunState → Bool
+knows_stop s run = not (is_stopped run) || (s.stopped && s.attempt == run.attempt)
 
 -- a leg as it was told in an attempt, if it was
 abbrev pub told_leg : Standing → ℕ → LegSite → Option LegState
@@ -93,6 +110,13 @@ beginning at t r run = option_map_or (λ seen. Begins at t.runs seen) (seen_of t
 abbrev pub moved_run : ℕ → TableState → Standing → ℕ → RunState → Change
 moved_run at t s r run = if s.attempt == run.attempt then Stands at (r + 1) run else beginning at t r run
 
+-- It made way for a newcomer of its group: it was stopped since it was told, and by none of these commands, which cancelled runs with these ids.
+abbrev pub is_displaced : List ℕ → Standing → ℕ → RunState → Bool
+is_displaced cancelled s r run = not (knows_stop s run) && not (list_any (nat_eq (r + 1)) cancelled)
+
+abbrev pub displaced_news : ℕ → List ℕ → TableState → Standing → ℕ → RunState → List Change
+displaced_news at cancelled t s r run = if is_displaced cancelled s r run then Displaced at t.runs (r + 1) run ∷ [] else []
+
 abbrev pub of_legs : ℕ → List LegNews → List Change
 of_legs at legs = map (λ news. LegStands at news) legs
 
@@ -100,25 +124,31 @@ of_legs at legs = map (λ news. LegStands at news) legs
 abbrev pub run_news : ℕ → TableState → Standing → ℕ → RunState → List Change
 run_news at t s r run = if is_same s run then [] else moved_run at t s r run ∷ []
 
--- First the run, if it is new or not as it was told; then each leg that is not as it was told. Of an attempt that was told as completed nothing
--- more is told.
-abbrev pub news_of : ℕ → NamesState → TableState → Option Standing → ℕ → RunState → List Change
-news_of at names t None r run = beginning at t r run ∷ of_legs at (moved_legs names t untold r run)
-news_of at names t (Some s) r run =
-    if is_over s run then [] else run_news at t s r run ++ of_legs at (moved_legs names t s r run)
+-- First the run, if it is new or not as it was told; that it made way, if it did; then each leg that is not as it was told. Of an attempt that was
+-- told as completed nothing more is told. `cancelled` are the runs that commands have cancelled since.
+abbrev pub news_of : ℕ → List ℕ → NamesState → TableState → Option Standing → ℕ → RunState → List Change
+news_of at cancelled names t None r run =
+    beginning at t r run ∷ displaced_news at cancelled t untold r run ++ of_legs at (moved_legs names t untold r run)
+news_of at cancelled names t (Some s) r run =
+    if is_over s run then []
+    else run_news at t s r run ++ displaced_news at cancelled t s r run ++ of_legs at (moved_legs names t s r run)
+
+-- whether nothing of it is to be told
+abbrev pub is_told : NamesState → TableState → Standing → ℕ → RunState → Bool
+is_told names t s r run = is_same s run && (knows_stop s run && nat_eq (length (moved_legs names t s r run)) 0)
 
 -- how it stands for those that have read this
 abbrev pub told_of : NamesState → TableState → Option Standing → ℕ → RunState → Standing
 told_of names t None r run = standing_of run
 told_of names t (Some s) r run =
     if is_over s run then s
-    else if is_same s run && nat_eq (length (moved_legs names t s r run)) 0 then s
+    else if is_told names t s r run then s
     else standing_of run
 
 -- ---- what is told of a table, run by run in the order of their ids
 
-abbrev pub table_news : ℕ → NamesState → TableState → List Standing → List Change
-table_news at names t known = flat_map (λ x. news_of at names t (slice_get known x.0) x.0 x.1) (placed t.runs)
+abbrev pub table_news : ℕ → List ℕ → NamesState → TableState → List Standing → List Change
+table_news at cancelled names t known = flat_map (λ x. news_of at cancelled names t (slice_get known x.0) x.0 x.1) (placed t.runs)
 
 abbrev pub told_after : NamesState → TableState → List Standing → List Standing
 told_after names t known = map (λ x. told_of names t (slice_get known x.0) x.0 x.1) (placed t.runs) ++ drop (length t.runs) known

@@ -1,6 +1,7 @@
 //! The changes of a service as lines: its covered entries, and the runs and legs that these have changed. The last lines are kept.
 #![tactic(auto)]
 
+mod displaced;
 mod kept;
 mod log;
 mod looking;

@@ -1,7 +1,8 @@
 ghost use Rattle.std.specs.Prelude.{◌≡◌, ◌+◌, ◌↔◌, ◌≤◌, IfNone, IfOk, IfSome, IsTrue, OnErr, OnOk, false, length, true};
-ghost use Rattle.covered_log.specs.Lines.{Begins, Entered, LegStands, Missed, Stands};
+ghost use Rattle.covered_log.specs.Lines.{Begins, Displaced, Entered, LegStands, Missed, Stands};
 ghost use Rattle.covered_log.specs.LogState.{HasRoom, IsPage, is_known, losing_line, new_log, place_of, with_change};
 
+use crate::displaced::displaced_line;
 use crate::kept::KeptLines;
 use crate::page::{Page, page_end, text_between};
 use crate::told::ToldChanges;
@@ -148,6 +149,25 @@ impl CoveredLog {
     {
         let line = leg_change_line(alloc, self.entries, at, news);
         self.told.stand_leg(at, news);
+        self.kept.keep(line)?;
+        Ok(())
+    }
+
+    /// Takes up that a run made way for a newcomer of its group. Without memory for its line all lines are forgotten, and the counts go on.
+    pub(crate) fn displace(
+        &mut self,
+        alloc: Global,
+        at: u64,
+        runs: &Runs,
+        id: Number,
+        run: &Run,
+    ) -> Result<(), AllocError>
+        requires { HasRoom self.old }
+        ensures ok { OnOk result (self.new ≡ with_change self.old (Displaced at runs.now id run.now)) }
+        ensures err { OnErr result (self.new ≡ losing_line self.old (Displaced at runs.now id run.now)) }
+    {
+        let line = displaced_line(alloc, self.entries, at, runs, id, run);
+        self.told.displace(at, runs, id, run);
         self.kept.keep(line)?;
         Ok(())
     }

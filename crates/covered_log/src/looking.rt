@@ -2,8 +2,8 @@
 
 ghost use Rattle.std.specs.Prelude.{◌≡◌, ◌≤◌, ◌+◌, ◌++◌, ◌∷◌, [], ◌<◌, None, OnOk, IfOk, Some, drop, length, slice_get, take, unwrap_or};
 ghost use Rattle.definitions.specs.Limits.{max_runs};
-ghost use Rattle.covered_log.specs.Lines.{Begins, Entered, LegStands, Stands, entries_of, with_all, with_more};
-ghost use Rattle.covered_log.specs.Standings.{beginning, moved_run, news_of, of_legs, run_news, table_news, told_after, told_of};
+ghost use Rattle.covered_log.specs.Lines.{Begins, Displaced, Entered, LegStands, Stands, entries_of, with_all, with_more};
+ghost use Rattle.covered_log.specs.Standings.{beginning, displaced_news, moved_run, news_of, of_legs, run_news, table_news, told_after, told_of};
 
 use crate::log::CoveredLog;
 use crate::moved::moved_legs;
@@ -16,11 +16,13 @@ use table_runs::runs::Runs;
 use table_views::{LeaseNames, LegNews};
 use wf_value::Refusal;
 
-/// What is looked at: a table after a commit, the time of the commit in milliseconds since 1970, and the runners of leases.
+/// What is looked at: a table after a commit, the time of the commit in milliseconds since 1970, the runs that its commands have cancelled, and
+/// the runners of leases.
 #[derive(Drop)]
 pub struct Look<'t> {
     pub at: u64,
     pub table: &'t Table,
+    pub cancelled: &'t [Number],
     pub names: &'t LeaseNames,
 }
 
@@ -63,6 +65,16 @@ impl CoveredLog {
     {
         if self.has_room() {
             let _ = self.stand_leg(alloc, at, news);
+        }
+    }
+
+    /// Tells that run `r` made way for a newcomer of its group.
+    fn tell_displaced(&mut self, alloc: Global, at: u64, runs: &Runs, id: Number, run: &Run)
+        ensures told { self.new.changes ≡ with_more self.old.changes (Displaced at runs.now id run.now) }
+        ensures entries { entries_of self.new.changes ≡ entries_of self.old.changes }
+    {
+        if self.has_room() {
+            let _ = self.displace(alloc, at, runs, id, run);
         }
     }
 
@@ -129,7 +141,28 @@ impl CoveredLog {
         }
     }
 
+    /// Tells that run `r` made way, if it did since it was told.
+    fn tell_if_displaced(
+        &mut self,
+        alloc: Global,
+        look: &Look<'_>,
+        told: &Standing,
+        r: usize,
+        run: &Run,
+    )
+        requires { r < max_runs }
+        ensures told { self.new.changes
+            ≡ with_all self.old.changes (displaced_news look.now.at look.now.cancelled.now look.now.table.now told.now r run.now) }
+        ensures entries { entries_of self.new.changes ≡ entries_of self.old.changes }
+    {
+        if told.is_displaced(look.cancelled, r, run) {
+            let id = Number::new(r as u32 + 1);
+            self.tell_displaced(alloc, look.at, look.table.kept_runs(), id, run);
+        }
+    }
+
     /// Tells a run of which nothing was told, and its legs. Returns how it stands.
+    #[tactic(auto, using(crate::proofs::Telling::all_of_both))]
     fn greet(
         &mut self,
         alloc: Global,
@@ -139,7 +172,7 @@ impl CoveredLog {
     ) -> Result<Standing, Refusal>
         requires { r < max_runs }
         ensures news { OnOk result
-            (self.new.changes ≡ with_all self.old.changes (news_of look.now.at look.now.names.now look.now.table.now None r run.now)) }
+            (self.new.changes ≡ with_all self.old.changes (news_of look.now.at look.now.cancelled.now look.now.names.now look.now.table.now None r run.now)) }
         ensures told { IfOk result (λ now. now ≡ told_of look.now.names.now look.now.table.now None r run.now) }
         ensures entries { entries_of self.new.changes ≡ entries_of self.old.changes }
     {
@@ -147,11 +180,13 @@ impl CoveredLog {
         let legs = moved_legs(alloc, look, &untold, r, run)?;
         let now = Standing::of(alloc, run)?;
         self.tell_beginning(alloc, look, r, run);
+        self.tell_if_displaced(alloc, look, &untold, r, run);
         self.tell_legs(alloc, look.at, legs.as_slice());
         Ok(now)
     }
 
-    /// Tells a run if it does not stand as it was told, and its legs that do not. Returns how it stands, if something was told.
+    /// Tells a run if it does not stand as it was told, that it made way if it did, and its legs that do not. Returns how it stands, if something
+    /// was told.
     #[tactic(auto, using(crate::proofs::Telling::all_of_both))]
     fn renew(
         &mut self,
@@ -163,7 +198,7 @@ impl CoveredLog {
     ) -> Result<Option<Standing>, Refusal>
         requires { r < max_runs }
         ensures news { OnOk result (self.new.changes
-            ≡ with_all self.old.changes (news_of look.now.at look.now.names.now look.now.table.now (Some told.now) r run.now)) }
+            ≡ with_all self.old.changes (news_of look.now.at look.now.cancelled.now look.now.names.now look.now.table.now (Some told.now) r run.now)) }
         ensures told { IfOk result (λ now. unwrap_or now told.now ≡ told_of look.now.names.now look.now.table.now (Some told.now) r run.now) }
         ensures entries { entries_of self.new.changes ≡ entries_of self.old.changes }
     {
@@ -173,6 +208,7 @@ impl CoveredLog {
         let legs = moved_legs(alloc, look, told, r, run)?;
         let now = told.renewed(alloc, run, legs.as_slice())?;
         self.tell_unless_same(alloc, look, told, r, run);
+        self.tell_if_displaced(alloc, look, told, r, run);
         self.tell_legs(alloc, look.at, legs.as_slice());
         Ok(now)
     }
@@ -189,7 +225,7 @@ impl CoveredLog {
         requires run { r < max_runs }
         requires known { r ≤ length standings.old }
         ensures news { OnOk result (self.new.changes
-            ≡ with_all self.old.changes (news_of look.now.at look.now.names.now look.now.table.now (slice_get standings.old r) r run.now)) }
+            ≡ with_all self.old.changes (news_of look.now.at look.now.cancelled.now look.now.names.now look.now.table.now (slice_get standings.old r) r run.now)) }
         ensures told { OnOk result (standings.new
             ≡ take r standings.old ++ told_of look.now.names.now look.now.table.now (slice_get standings.old r) r run.now
             ∷ drop (r + 1) standings.old) }
@@ -215,6 +251,9 @@ impl CoveredLog {
     /// Promise (Views of a service): What is told of a table is, in the order of ids, each run that begins an attempt or is not as it was told,
     ///   and after it each of its legs whose state or lease is not as it was told
     /// By: `covered_log::CoveredLog::look`, `news` (`table_news`, `news_of`, `moved_legs`), `told` (`told_after`), `left`
+    /// Promise (Views of a service): A run that was stopped since it was told, by no command, is told once more, with the run or leg that is pending
+    ///   in its group, or else in progress
+    /// By: `covered_log::CoveredLog::look`, `news` (`displaced_news`, `is_displaced`, `is_stopped`); `covered_log::displaced::displaced_line` (`next_after`)
     pub fn look(
         &mut self,
         alloc: Global,
@@ -222,9 +261,9 @@ impl CoveredLog {
         standings: &mut Standings,
     ) -> Result<(), Refusal>
         ensures news { OnOk result
-            (self.new.changes ≡ with_all self.old.changes (table_news look.now.at look.now.names.now look.now.table.now standings.old)) }
+            (self.new.changes ≡ with_all self.old.changes (table_news look.now.at look.now.cancelled.now look.now.names.now look.now.table.now standings.old)) }
         ensures told { OnOk result (standings.new ≡ told_after look.now.names.now look.now.table.now standings.old) }
-        ensures left { OnOk result (table_news look.now.at look.now.names.now look.now.table.now standings.new ≡ []) }
+        ensures left { OnOk result (table_news look.now.at look.now.cancelled.now look.now.names.now look.now.table.now standings.new ≡ []) }
         ensures entries { entries_of self.new.changes ≡ entries_of self.old.changes }
     {
         let runs = look.table.kept_runs().as_slice();

@@ -1,9 +1,10 @@
 //! How runs stood when they were last told.
 
-ghost use Rattle.std.specs.Prelude.{◌≡◌, ◌==◌, ◌&&◌, ◌++◌, ◌∷◌, [], ◌<◌, IfOk, OnOk, false, if◌then◌else◌, length, map, nat_eq, option_copied, option_map, slice_get, slice_set, unwrap_or};
+ghost use Rattle.std.specs.Prelude.{◌≡◌, ◌==◌, ◌&&◌, ◌||◌, ◌++◌, ◌∷◌, [], ◌<◌, IfOk, OnOk, false, if◌then◌else◌, length, map, nat_eq, option_copied, option_map, slice_get, slice_set, unwrap_or};
+ghost use Rattle.std.specs.List.{list_all, list_any};
 ghost use Rattle.std.specs.Option.{option_map_or};
 ghost use Rattle.table_model.specs.inner.Cells.{states};
-ghost use Rattle.covered_log.specs.Standings.{is_over, is_same, is_same_leg, is_same_lease, legs_to_keep, standing_of, told_leg, untold};
+ghost use Rattle.covered_log.specs.Standings.{has_no_leg, is_displaced, is_over, is_same, is_same_leg, is_same_lease, is_stopped, knows_stop, legs_to_keep, standing_of, told_leg, untold};
 
 use run_plan::Number;
 use run_table::{Table, conclusion_word, leg_word, status_word};
@@ -35,6 +36,7 @@ pub(crate) struct Standing {
     /// Whether the status is `completed`. Most runs of a service have completed, and are looked at after each commit.
     is_completed: bool,
     conclusion: &'static str,
+    is_stopped: bool,
     jobs: Vec<JobLegs>,
 }
 
@@ -45,9 +47,31 @@ impl Model for Standing {
 
     ghost Value = { StandingState };
 
-    ghost view = { λ s. record { attempt = s.attempt; status = s.status.now; conclusion = s.conclusion.now; jobs = s.jobs.items } };
+    ghost view = { λ s. record { attempt = s.attempt; status = s.status.now; conclusion = s.conclusion.now; stopped = s.is_stopped; jobs = s.jobs.items } };
 
     ghost invariant = { λ s. s.is_completed ≡ bytes_eq s.status.now (codes "completed") };
+}
+
+/// Whether none of these jobs has a leg.
+fn have_no_legs(jobs: &[Job]) -> bool
+    ensures { result ≡ list_all (λ job. has_no_leg job.state) jobs.now }
+{
+    jobs.iter().all(|job| job.legs().is_empty())
+}
+
+/// Whether none of the jobs of a run has a leg.
+fn has_no_legs(run: &Run) -> bool
+    ensures { result ≡ list_all has_no_leg run.now.jobs }
+{
+    have_no_legs(run.jobs())
+}
+
+/// Whether a run has been asked to stop, or ended as cancelled before it began.
+fn is_stopped(run: &Run) -> bool
+    ensures { result ≡ is_stopped run.now }
+{
+    run.is_stopping()
+        || (conclusion_word(run.phase(), run.jobs()) == "cancelled" && has_no_legs(run))
 }
 
 /// The legs of each of these jobs.
@@ -99,6 +123,7 @@ impl Standing {
             status: "",
             is_completed: false,
             conclusion: "",
+            is_stopped: false,
             jobs: Vec::new(alloc),
         }
     }
@@ -112,6 +137,7 @@ impl Standing {
             status,
             is_completed: status == "completed",
             conclusion: conclusion_word(run.phase(), run.jobs()),
+            is_stopped: is_stopped(run),
             jobs: legs_to_keep(alloc, run.phase(), run.jobs())?,
         })
     }
@@ -139,6 +165,20 @@ impl Standing {
             && self.conclusion == conclusion_word(run.phase(), run.jobs())
     }
 
+    /// Whether it was told as stopped in the attempt that a run is in, if the run is.
+    fn knows_stop(&self, run: &Run) -> bool
+        ensures { result ≡ knows_stop self.now run.now }
+    {
+        !is_stopped(run) || (self.is_stopped && self.is_of_attempt(run))
+    }
+
+    /// Whether run `r` made way for a newcomer of its group since it was told. `cancelled` are the runs that commands have cancelled since.
+    pub(crate) fn is_displaced(&self, cancelled: &[Number], r: usize, run: &Run) -> bool
+        ensures { result ≡ is_displaced cancelled.now self.now r run.now }
+    {
+        !self.knows_stop(run) && !cancelled.iter().any(|id| r + 1 == id.get() as usize)
+    }
+
     /// How the run stands, if it does not stand as it was told, or these legs do not.
     pub(crate) fn renewed(
         &self,
@@ -147,9 +187,10 @@ impl Standing {
         moved: &[LegNews],
     ) -> Result<Option<Standing>, AllocError>
         ensures { IfOk result (λ now. unwrap_or now self.now
-            ≡ (if is_same self.now run.now && nat_eq (length moved.now) 0 then self.now else standing_of run.now)) }
+            ≡ (if is_same self.now run.now && (knows_stop self.now run.now && nat_eq (length moved.now) 0)
+                then self.now else standing_of run.now)) }
     {
-        if self.is_same(run) && moved.is_empty() {
+        if self.is_same(run) && self.knows_stop(run) && moved.is_empty() {
             return Ok(None);
         }
         Ok(Some(Standing::of(alloc, run)?))

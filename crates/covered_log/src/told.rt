@@ -1,5 +1,5 @@
 ghost use Rattle.std.specs.Prelude.{◌≡◌, ◌++◌, ◌∷◌, []};
-ghost use Rattle.covered_log.specs.Lines.{Begins, Entered, LegStands, Missed, Stands};
+ghost use Rattle.covered_log.specs.Lines.{Begins, Displaced, Entered, LegStands, Missed, Stands};
 
 use http_server::Log;
 use run_plan::{Command, Number, Reply};
@@ -18,6 +18,8 @@ pub(crate) enum Told {
     Attempt(u64, Snapshot<Runs>, Number, Number, Snapshot<Run>),
     Run(u64, Number, Snapshot<Run>),
     Leg(u64, Snapshot<LegNews>),
+    /// A run that made way for a newcomer of its group, among the runs of its table.
+    Displaced(u64, Snapshot<Runs>, Number, Snapshot<Run>),
     Missed,
 }
 
@@ -75,6 +77,14 @@ impl ToldChanges {
     {
         let stand = Told::Leg(at, Snapshot::of(news));
         self.told = self.told.and(&stand, &true);
+    }
+
+    /// Appends that a run made way for a newcomer of its group.
+    pub(crate) fn displace(&mut self, at: u64, runs: &Runs, id: Number, run: &Run)
+        ensures { self.new ≡ self.old ++ Displaced at runs.now id run.now ∷ [] }
+    {
+        let displaced = Told::Displaced(at, Snapshot::of(runs), id, Snapshot::of(run));
+        self.told = self.told.and(&displaced, &true);
     }
 
     /// Appends a change that is missed.

@@ -1,8 +1,9 @@
 -- Entries of a history are taken up.
-use Rattle.std.proofs.Common.{◌≡◌, ◌∙◌, ◌≤◌, ◌<◌, ◌+◌, ◌-◌, ◌^◌, ℕ, List, [], ◌∷◌, ◌++◌, length, take, drop, map, refl, sym, subst, ap, ap₂, inl, inr, arith, append_assoc, append-nil, length-append, length-take}
+use Rattle.std.proofs.Common.{◌≡◌, ◌∙◌, ◌≤◌, ◌<◌, ◌+◌, ◌-◌, ◌^◌, ℕ, List, [], ◌∷◌, ◌++◌, length, take, drop, map, refl, sym, subst, ap, inl, inr, arith, append_assoc, append-nil, length-append, length-take}
 use Rattle.std.proofs.lemmas.Bool.Decides.{nat_tests}
 use Rattle.std.proofs.lemmas.Grind.{flat_map-append}
 use Rattle.std.proofs.lemmas.List.{drop-append-le, map-append, take_more}
+use Rattle.std.proofs.lemmas.List.Elements.{filter_map-append}
 use Rattle.std.proofs.lemmas.Option.{get_or_from_slice_get, slice_get_cases, slice_get_within}
 use Rattle.std.specs.Prelude.{None, Option, Some, slice_get, ◌==◌, if◌then◌else◌}
 use Rattle.run_plan.specs.declared.command.Command.{Command}
@@ -10,10 +11,10 @@ use Rattle.run_plan.specs.declared.reply.Reply.{Reply}
 use Rattle.act_store.specs.declared.entry.Entry.{Entry}
 use Rattle.covered_log.proofs.Telling.{all_of_both}
 use Rattle.covered_log.specs.Lines.{Change, entries_in, entries_of, with_all, with_more}
-use Rattle.covered_log.specs.Standings.{table_news, told_after}
+use Rattle.covered_log.specs.Standings.{table_news}
 use Rattle.table_model.specs.TableState.{TableState}
 use Rattle.table_views.specs.LeaseNames.{NamesState}
-use Rattle.service_views.specs.Following.{NoteOf, NotesOf, TellsOrForgets, entered, told_of}
+use Rattle.service_views.specs.Following.{NoteOf, NotesOf, TellsOrForgets, cancelled_by, cancelled_in, entered, told_of}
 use Rattle.service_views.specs.declared.changes.Changes.{Changes}
 
 -- the entries from an index to the next place
@@ -66,16 +67,33 @@ notes_next_name history from place e old mid new order is notes note =
     (notes_more (drop from (take place history)) e old mid new notes note)
 
 -- what is told of a table, to those that knew how it stood before the entries
-pub tells_of : (at : ℕ) (t u : TableState) (changes others : List Change) (old mid new : Changes) → t ≡ u → changes ≡ others
-    → mid.standings ≡ old.standings → TellsOrForgets at t changes mid new → TellsOrForgets at u others old new
-tells_of at t u changes others old mid new same more stands (inl tells) =
+pub tells_of : (at : ℕ) (cancelled : List ℕ) (t : TableState) (changes others : List Change) (old mid new : Changes) → changes ≡ others
+    → mid.standings ≡ old.standings → TellsOrForgets at cancelled t changes mid new → TellsOrForgets at cancelled t others old new
+tells_of at cancelled t changes others old mid new more stands (inl tells) =
     inl (record {
       known = tells.known;
       were = sym stands ∙ tells.were;
-      are = tells.are ∙ ap (λ (table : TableState). Some (told_after new.names table tells.known)) same;
-      told = tells.told ∙ ap₂ (λ (cs : List Change) (table : TableState). with_all cs (table_news at new.names table tells.known)) more same;
+      are = tells.are;
+      told = tells.told ∙ ap (λ (cs : List Change). with_all cs (table_news at cancelled new.names t tells.known)) more;
     })
-tells_of at t u changes others old mid new same more stands (inr none) = inr none
+tells_of at cancelled t changes others old mid new more stands (inr none) = inr none
+
+-- the same of the same table, with the same runs that were cancelled
+pub tells_same : (at : ℕ) (runs cancelled : List ℕ) (t u : TableState) (changes : List Change) (old new : Changes) → runs ≡ cancelled → t ≡ u
+    → TellsOrForgets at runs t changes old new → TellsOrForgets at cancelled u changes old new
+tells_same at runs cancelled t u changes old new are same tells =
+    subst (λ (ids : List ℕ). TellsOrForgets at ids u changes old new) are (subst (λ (table : TableState). TellsOrForgets at runs table changes old new) same tells)
+
+-- ---- the runs that entries have cancelled
+
+pub cancelled_both : (es others : List Entry) → cancelled_in (es ++ others) ≡ cancelled_in es ++ cancelled_in others
+cancelled_both es others = filter_map-append (λ (e : Entry). cancelled_by e.command e.reply) es others
+
+-- those of the next entry of a history
+pub cancelled_next : (history : List Entry) (from place : ℕ) (e : Entry) → from ≤ place → slice_get history place ≡ Some e
+    → cancelled_in (drop from (take place history)) ++ cancelled_in (e ∷ []) ≡ cancelled_in (drop from (take (place + 1) history))
+cancelled_next history from place e order is =
+    sym (cancelled_both (drop from (take place history)) (e ∷ [])) ∙ ap cancelled_in (sym (entries_next history from place e order is))
 
 -- ---- one change
 

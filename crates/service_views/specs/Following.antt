@@ -1,5 +1,5 @@
 -- How the changes of a service follow the history and the table of its store.
-use Rattle.std.specs.Prelude.{◌≡◌, ◌⊎◌, ℕ, ◌+◌, ◌<◌, ◌^◌, List, [], ◌∷◌, ◌++◌, length, map, Option, None, Some}
+use Rattle.std.specs.Prelude.{◌≡◌, ◌⊎◌, ℕ, ◌+◌, ◌<◌, ◌^◌, List, [], ◌∷◌, ◌++◌, filter_map, length, map, Option, None, Some}
 use Rattle.std.specs.Option.{option_map_or}
 use Rattle.run_plan.specs.declared.command.Claim.{Claim}
 use Rattle.run_plan.specs.declared.command.Command.{Command}
@@ -28,24 +28,33 @@ abbrev pub TakesUp : List Entry → LogState → LogState → Type 0
 TakesUp entries old new =
     length old.changes + length entries < 2 ^ 64 → entries_of new.changes ≡ entries_of old.changes ++ map told_of entries
 
--- After changes, what a table gives is told to those that knew how its runs stood; so they know how these stand now.
-pub record TellsTable (at : ℕ) (t : TableState) (changes : List Change) (old new : Changes) : Type 0 where
+-- the run that an entry has cancelled, if it has
+abbrev pub cancelled_by : Command → Reply → Option ℕ
+cancelled_by (command.Cancel run) reply.Ok = Some run
+cancelled_by _ _ = None
+
+abbrev pub cancelled_in : List Entry → List ℕ
+cancelled_in entries = filter_map (λ e. cancelled_by e.command e.reply) entries
+
+-- After changes, what a table gives is told to those that knew how its runs stood; so they know how these stand now. Commands have cancelled
+-- these runs since.
+pub record TellsTable (at : ℕ) (cancelled : List ℕ) (t : TableState) (changes : List Change) (old new : Changes) : Type 0 where
   pub known : List Standing
   pub were : old.standings ≡ Some known
   pub are : new.standings ≡ Some (told_after new.names t known)
-  pub told : new.log.changes ≡ with_all changes (table_news at new.names t known)
+  pub told : new.log.changes ≡ with_all changes (table_news at cancelled new.names t known)
 
 -- No line is kept: every reader has to list again.
 abbrev pub KeepsNoLine : Changes → Type 0
 KeepsNoLine k = length k.log.changes + 1 < 2 ^ 64 → k.log.first ≡ length k.log.changes
 
 -- The table is told, or there was no memory for it.
-abbrev pub TellsOrForgets : ℕ → TableState → List Change → Changes → Changes → Type 0
-TellsOrForgets at t changes old new = TellsTable at t changes old new ⊎ KeepsNoLine new
+abbrev pub TellsOrForgets : ℕ → List ℕ → TableState → List Change → Changes → Changes → Type 0
+TellsOrForgets at cancelled t changes old new = TellsTable at cancelled t changes old new ⊎ KeepsNoLine new
 
 -- The entries are told with the time of their commit, and then the table; or there was no memory for it.
 abbrev pub Tells : ℕ → TableState → List Entry → Changes → Changes → Type 0
-Tells at t entries old new = TellsOrForgets at t (with_all old.log.changes (map (entered at) entries)) old new
+Tells at t entries old new = TellsOrForgets at (cancelled_in entries) t (with_all old.log.changes (map (entered at) entries)) old new
 
 -- ---- the runners of leases
 

@@ -1,17 +1,17 @@
 //! The changes of a service: its covered entries, and the runs and legs that they have changed, as lines.
 
-ghost use Rattle.std.specs.Prelude.{◌≡◌, IfOk, Some, drop, map, option_map, take};
+ghost use Rattle.std.specs.Prelude.{◌≡◌, ◌++◌, ◌∷◌, [], IfOk, OnOk, Some, drop, map, option_map, take};
 ghost use Rattle.act_store.specs.StoreState.{table_of};
 ghost use Rattle.covered_log.specs.Lines.{entries_of, with_all, with_more};
 ghost use Rattle.covered_log.specs.LogState.{new_log};
 ghost use Rattle.covered_log.specs.Standings.{standing_of};
 ghost use Rattle.table_views.specs.LeaseNames.{no_names};
-ghost use Rattle.service_views.specs.Following.{KeepsNoLine, NoteOf, NotesOf, TakesUp, Tells, TellsOrForgets, TellsTable, claim_of, entered, lease_of};
+ghost use Rattle.service_views.specs.Following.{KeepsNoLine, NoteOf, NotesOf, TakesUp, Tells, TellsOrForgets, TellsTable, cancelled_by, cancelled_in, claim_of, entered, lease_of};
 
 use act_disk::Disk;
 use act_store::{Entry, Store};
 use covered_log::{CoveredLog, Look, Standings};
-use run_plan::{BoxedLease, Claim, Command, Reply};
+use run_plan::{BoxedLease, Claim, Command, Number, Reply};
 use run_table::Table;
 use std::alloc::{AllocError, Global};
 use std::mem;
@@ -34,6 +34,43 @@ fn lease_of(reply: &Reply) -> Option<&BoxedLease>
         Reply::Lease(lease) => Some(lease),
         _ => None,
     }
+}
+
+/// The run that an entry has cancelled, if it has.
+fn cancelled_by(command: &Command, reply: &Reply) -> Option<Number>
+    ensures { result ≡ cancelled_by command.now reply.now }
+{
+    match (command, reply) {
+        (Command::Cancel(run), Reply::Ok) => Some(*run),
+        _ => None,
+    }
+}
+
+/// Adds the run that an entry has cancelled, if it has.
+fn push_cancelled(entry: &Entry, runs: &mut Vec<Number>) -> Result<(), AllocError>
+    ensures { OnOk result (runs.new.items ≡ runs.old.items ++ cancelled_in (entry.now ∷ [])) }
+{
+    if let Some(run) = cancelled_by(&entry.command, &entry.reply) {
+        runs.push(run)?;
+    }
+    Ok(())
+}
+
+/// The runs that the entries of a store have cancelled that were made durable since there were so many.
+fn cancelled_since<D: Disk>(
+    alloc: Global,
+    store: &Store<D>,
+    taken: u64,
+) -> Result<Vec<Number>, AllocError>
+    ensures { IfOk result (λ runs. runs.items ≡ cancelled_in (drop taken (take store.now.covered store.now.history))) }
+{
+    let mut runs = Vec::new(alloc);
+    for index in taken..store.covered() {
+        if let Some(entry) = store.entry(index + 1) {
+            push_cancelled(entry, &mut runs)?;
+        }
+    }
+    Ok(runs)
 }
 
 /// The changes of a service.
@@ -124,15 +161,16 @@ impl Changes {
         self.taken = store.covered();
     }
 
-    /// Tells what the runs of a table have become since they stood so. Returns how they stand.
+    /// Tells what the runs of a table have become since they stood so, and since commands have cancelled some. Returns how they stand.
     fn look(
         &mut self,
         alloc: Global,
         at: u64,
         table: &Table,
+        cancelled: &[Number],
         known: Option<Standings>,
     ) -> Result<Standings, Refusal>
-        ensures told { IfOk result (λ standings. TellsTable at table.now self.old.log.changes (record self.old { standings = known })
+        ensures told { IfOk result (λ standings. TellsTable at cancelled.now table.now self.old.log.changes (record self.old { standings = known })
             (record self.new { standings = Some standings })) }
         ensures names { self.new.names ≡ self.old.names }
         ensures entries { entries_of self.new.log.changes ≡ entries_of self.old.log.changes }
@@ -144,28 +182,46 @@ impl Changes {
         let look = Look {
             at,
             table,
+            cancelled,
             names: &self.names,
         };
         self.log.look(alloc, &look, &mut standings)?;
         Ok(standings)
     }
 
-    /// Tells what the entries have made of the runs. Without memory for that no lines are kept.
-    fn look_new(&mut self, alloc: Global, at: u64, table: &Table)
-        ensures told { TellsOrForgets at table.now self.old.log.changes self.old self.new }
+    /// Tells what the entries have made of the runs, of which commands have cancelled some. Without memory for that no lines are kept.
+    fn look_new(&mut self, alloc: Global, at: u64, table: &Table, cancelled: &[Number])
+        ensures told { TellsOrForgets at cancelled.now table.now self.old.log.changes self.old self.new }
         ensures names { self.new.names ≡ self.old.names }
         ensures entries { entries_of self.new.log.changes ≡ entries_of self.old.log.changes }
         ensures taken { self.new.taken ≡ self.old.taken }
     {
         let mut known = None;
         mem::swap(&mut known, &mut self.standings);
-        self.standings = match self.look(alloc, at, table, known) {
+        self.standings = match self.look(alloc, at, table, cancelled, known) {
             Ok(standings) => Some(standings),
             Err(_) => {
                 self.miss();
                 Standings::of(alloc, table).ok()
             }
         };
+    }
+
+    /// Tells what the entries of a store have made of the runs that were made durable since there were so many. Without memory for that no lines
+    /// are kept.
+    fn look_since<D: Disk>(&mut self, alloc: Global, at: u64, store: &Store<D>, taken: u64)
+        ensures told { TellsOrForgets at (cancelled_in (drop taken (take store.now.covered store.now.history))) (table_of store.now)
+            self.old.log.changes self.old self.new }
+        ensures names { self.new.names ≡ self.old.names }
+        ensures entries { entries_of self.new.log.changes ≡ entries_of self.old.log.changes }
+        ensures taken { self.new.taken ≡ self.old.taken }
+    {
+        let Ok(cancelled) = cancelled_since(alloc, store, taken) else {
+            self.miss();
+            self.standings = Standings::of(alloc, store.table()).ok();
+            return;
+        };
+        self.look_new(alloc, at, store.table(), cancelled.as_slice());
     }
 
     /// Takes up the entries of a store that were made durable since the last time, and the runs and legs that they have changed. `at` is the
@@ -178,15 +234,16 @@ impl Changes {
     /// By: `service_views::changes::Changes::take_up`, `names` (`NotesOf`, `noted`)
     /// Promise (Views of a service): After these entries the changes gain what is told of the table, all with the time of the commit, so that
     ///   readers know how it stands; without memory for that no line is kept
-    /// By: `service_views::changes::Changes::take_up`, `told` (`Tells`, `table_news`, `told_after`, `KeepsNoLine`)
+    /// By: `service_views::changes::Changes::take_up`, `told` (`Tells`, `table_news`, `cancelled_in`, `told_after`, `KeepsNoLine`)
     pub(crate) fn take_up<D: Disk>(&mut self, alloc: Global, store: &Store<D>, at: u64)
         ensures entered { TakesUp (drop self.old.taken (take store.now.covered store.now.history)) self.old.log self.new.log }
         ensures told { Tells at (table_of store.now) (drop self.old.taken (take store.now.covered store.now.history)) self.old self.new }
         ensures names { NotesOf (drop self.old.taken (take store.now.covered store.now.history)) self.old.names self.new.names }
         ensures taken { self.new.taken ≡ store.now.covered }
     {
+        let taken = self.taken;
         self.enter_new(alloc, store, at);
-        self.look_new(alloc, at, store.table());
+        self.look_since(alloc, at, store, taken);
     }
 
     /// A new history has begun. Places and cursors go on.

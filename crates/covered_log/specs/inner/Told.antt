@@ -1,5 +1,5 @@
 -- What a line tells, as the code keeps it.
-use Rattle.covered_log.specs.Lines.{Begins, Change, Entered, LegStands, Missed, Stands}
+use Rattle.covered_log.specs.Lines.{Begins, Change, Displaced, Entered, LegStands, Missed, Stands}
 use Rattle.covered_log.specs.declared.told.Told.{Told}
 use Rattle.covered_log.specs.declared.told.Told.TheVariants as told
 
@@ -8,4 +8,5 @@ change_of (told.Entry at command reply) = Entered at command.value reply.value
 change_of (told.Attempt at runs id number run) = Begins at runs.value (record { id = id; number = number; run = run.value })
 change_of (told.Run at id run) = Stands at id run.value
 change_of (told.Leg at news) = LegStands at news.value
+change_of (told.Displaced at runs id run) = Displaced at runs.value id run.value
 change_of told.Missed = Missed

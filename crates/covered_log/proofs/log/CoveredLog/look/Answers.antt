@@ -33,11 +33,11 @@ loop-r-preserved c =
     let lt : r < length runs = omega (arith, c.loop-r-test.true) in
     let within : r ≤ length runs = omega (arith, lt) in
     let tell : Option Standing → List Change =
-    λ told. news_of c.args.look.now.at c.args.look.now.names.now c.args.look.now.table.now told r run in
+    λ told. news_of c.args.look.now.at c.args.look.now.cancelled.now c.args.look.now.names.now c.args.look.now.table.now told r run in
     let stand : Option Standing → Standing =
     λ told. told_of c.args.look.now.names.now c.args.look.now.table.now told r run in
     let g : ℕ × RunState → List Change =
-    λ x. news_of c.args.look.now.at c.args.look.now.names.now c.args.look.now.table.now (slice_get known x.0) x.0 x.1 in
+    λ x. news_of c.args.look.now.at c.args.look.now.cancelled.now c.args.look.now.names.now c.args.look.now.table.now (slice_get known x.0) x.0 x.1 in
     let f : ℕ × RunState → Standing =
     λ x. told_of c.args.look.now.names.now c.args.look.now.table.now (slice_get known x.0) x.0 x.1 in
     let p : List Standing = map f (placed (take r runs)) in
@@ -84,5 +84,5 @@ returns-clause-left c =
     ∙ ap (λ (n : ℕ). map f (placed (take n runs)) ++ drop n known) all
     ∙ ap (λ (xs : List RunState). map f (placed xs) ++ drop (length runs) known) (take-length runs)
     ∙ ap (λ (xs : List RunState). map f (placed xs) ++ drop (length xs) known) (c.as_slice-runs.ensures.runs ∙ c.kept_runs.ensures.runs) in
-    ap (table_news c.args.look.now.at c.args.look.now.names.now c.args.look.now.table.now) told
-    ∙ nothing_left c.args.look.now.at c.args.look.now.names.now c.args.look.now.table.now known
+    ap (table_news c.args.look.now.at c.args.look.now.cancelled.now c.args.look.now.names.now c.args.look.now.table.now) told
+    ∙ nothing_left c.args.look.now.at c.args.look.now.cancelled.now c.args.look.now.names.now c.args.look.now.table.now known

@@ -11,7 +11,7 @@ abbrev pub invariant-loop-r : goal.invariant-loop-r
 invariant-loop-r l = record {
   news : l.self.changes
       ≡ with_all l.fn.self.changes (flat_map
-      (λ (x : ℕ × RunState). news_of l.look.at l.look.names.now l.look.table.now (slice_get l.fn.standings x.0) x.0 x.1) (placed (take l.r l.runs)));
+      (λ (x : ℕ × RunState). news_of l.look.at l.look.cancelled.now l.look.names.now l.look.table.now (slice_get l.fn.standings x.0) x.0 x.1) (placed (take l.r l.runs)));
   told : l.standings
       ≡ map (λ (x : ℕ × RunState). told_of l.look.names.now l.look.table.now (slice_get l.fn.standings x.0) x.0 x.1) (placed (take l.r l.runs))
       ++ drop l.r l.fn.standings;

@@ -2,7 +2,7 @@ use Rattle.std.proofs.Common.{◌∙◌, List, ap, drop, subst, sym, take}
 use Rattle.act_store.specs.StoreState.{table_of}
 use Rattle.act_store.specs.declared.entry.Entry.{Entry}
 use Rattle.covered_log.specs.Lines.{entries_of}
-use Rattle.service_views.specs.Following.{NotesOf}
+use Rattle.service_views.specs.Following.{NotesOf, cancelled_in}
 use Rattle.table_views.specs.LeaseNames.{NamesState}
 use Rattle.service_views.proofs.FollowingLemmas.{taken_up, tells_of}
 use Rattle.service_views.proofs.changes.Changes.take_up.Goals as goal
@@ -10,14 +10,15 @@ use Rattle.service_views.proofs.changes.Changes.take_up.Goals as goal
 pub returns-clause-entered : goal.returns-clause-entered
 returns-clause-entered g c = λ room.
     let es : List Entry = drop c.args.self.now.taken (take c.args.store.now.covered c.args.store.now.history) in
-    c.look_new.ensures.entries ∙ ap entries_of c.enter_new.ensures.told ∙ taken_up c.args.self.now.log.changes c.args.at es room
+    c.look_since.ensures.entries ∙ ap entries_of c.enter_new.ensures.told ∙ taken_up c.args.self.now.log.changes c.args.at es room
 
 pub returns-clause-told : goal.returns-clause-told
 returns-clause-told g c =
-    tells_of c.args.at c.table.result.now (table_of c.args.store.now) c.enter_new.new.self.log.changes _ c.args.self.now c.enter_new.new.self
-    c.look_new.new.self c.table.ensures c.enter_new.ensures.told c.enter_new.ensures.standings c.look_new.ensures.told
+    let es : List Entry = drop c.args.self.now.taken (take c.args.store.now.covered c.args.store.now.history) in
+    tells_of c.args.at (cancelled_in es) (table_of c.args.store.now) c.enter_new.new.self.log.changes _ c.args.self.now c.enter_new.new.self
+    c.look_since.new.self c.enter_new.ensures.told c.enter_new.ensures.standings c.look_since.ensures.told
 
 pub returns-clause-names : goal.returns-clause-names
 returns-clause-names g c =
     let es : List Entry = drop c.args.self.now.taken (take c.args.store.now.covered c.args.store.now.history) in
-    subst (λ (s : NamesState). NotesOf es c.args.self.now.names s) (sym c.look_new.ensures.names) c.enter_new.ensures.names
+    subst (λ (s : NamesState). NotesOf es c.args.self.now.names s) (sym c.look_since.ensures.names) c.enter_new.ensures.names
