@@ -1,6 +1,6 @@
 -- Events in a row.
 use Rattle.std.proofs.Common.{◌≡◌, ◌↔◌, ⊎_elim, ℕ, ◌+◌, ◌≤◌, true, false, Bool, List, [], ◌∷◌, ◌++◌, length, take, refl, sym, ap, subst, ◌∙◌, inl, inr, append-nil, append_assoc, length-append, arith, Ok, Err}
-use Rattle.std.specs.Prelude.{drop, Option, Some, None, if◌then◌else◌}
+use Rattle.std.specs.Prelude.{drop, IfNone, IfSome, Option, Some, None, if◌then◌else◌}
 use Rattle.std.proofs.lemmas.List.{length-set, take-append-le}
 use Rattle.table_model.specs.TableState.{TableState}
 use Rattle.definitions.specs.Disk.{EachSince}
@@ -11,16 +11,16 @@ use Rattle.act_store.specs.Images.{RecoversTo}
 use Rattle.act_store.specs.Plain.{turned_over}
 use Rattle.act_store.specs.StoreState.{RecoversToEither, RecoversToSome, StoreState}
 use Rattle.act_store.specs.declared.entry.Entry.{Entry}
-use Rattle.client_loop.specs.Clients.{SlotHears, SlotState}
+use Rattle.client_loop.specs.Clients.{SlotDiscards, SlotHears, SlotJoins, SlotParts, SlotSends, SlotState, Wire}
 use Rattle.client_loop.specs.Conversation.{Conversation}
 use Rattle.client_loop.specs.Entering.{Enters, entries_of, part_of}
-use Rattle.client_loop.specs.Events.{Grows, Happens, IsQuiet, IsStuck, Plays, Survives}
-use Rattle.client_loop.specs.Service.{IsPromised, IsService, ServiceHears, ServiceState, covered_of, history_of}
+use Rattle.client_loop.specs.Events.{Grows, Happens, IsQuiet, Plays, Survives}
+use Rattle.client_loop.specs.Service.{IsPromised, IsService, IsStuck, ServiceHears, ServiceState, covered_of, history_of}
 use Rattle.client_loop.specs.Slots.{ChangesSlot, SlotsState}
 use Rattle.client_loop.specs.declared.event.Event.{Event}
 use Rattle.client_loop.specs.declared.event.Event.TheVariants as event
 use Rattle.client_loop.proofs.Machine.{service_promises, some_of_either}
-use Rattle.client_loop.proofs.Served.{either_hears, extends}
+use Rattle.client_loop.proofs.Served.{extends}
 
 same_hooks : (R : SlotState → SlotState → Type 0) (i : ℕ) (old new : SlotsState) → ChangesSlot R i old new → new.hooks ≡ old.hooks
 same_hooks R i old new change = ap (λ (k : SlotsState). k.hooks) change.is
@@ -74,10 +74,6 @@ module _ {D : Type 0} where
     -- a store that has failed enters nothing
     pub none : old.failed ≡ true → more ≡ []
 
-  adds_none : (old new : StoreState D) → new ≡ old → Adds old new
-  adds_none old new same = subst (λ (s : StoreState D). Adds old s) (sym same)
-      (record { more = []; history = sym (append-nil old.history); base = refl; covered = refl; disk = refl; failed = refl; none = λ failed. refl })
-
   failed_enters : (number : ℕ) (old new : StoreState D) (xs : List Exchange) → Enters number old xs new → old.failed ≡ true → entries_of number xs ≡ []
   failed_enters number old new [] enters failed = refl
   failed_enters number old new ((c, Ok reply) ∷ xs) enters failed = absurd (not_refused _ _ old.failed failed enters.1.2)
@@ -86,11 +82,9 @@ module _ {D : Type 0} where
 
   pub hears_adds : (follows : Conversation → Type 0) (i : ℕ) (piece : List ℕ) (old : StoreState D) (was now : SlotState) (new : StoreState D)
       → SlotHears follows i piece old new was now → Adds old new
-  hears_adds follows i piece old was now new hears = ⊎_elim
-      (λ none. adds_none old new none.1)
-      (λ some.
-      let xs = some.4.exchanges in
-      let grown = extends i old new xs some.4.enters in
+  hears_adds follows i piece old was now new (c, d, here, is, heard) =
+      let xs = heard.hears.exchanges in
+      let grown = extends i old new xs heard.hears.enters in
       record {
         more = entries_of i xs;
         history = grown.history;
@@ -98,9 +92,8 @@ module _ {D : Type 0} where
         covered = grown.covered;
         disk = grown.disk;
         failed = grown.failed;
-        none = failed_enters i old new xs some.4.enters;
-      })
-      (either_hears follows i piece old was new now hears)
+        none = failed_enters i old new xs heard.hears.enters;
+      }
 
   pub hears_grows : (p : ℕ → Conversation → Type 0) (i : ℕ) (piece : List ℕ) (old new : ServiceState D) → ServiceHears p i piece old new → Grows old new
   hears_grows p i piece old new h =
@@ -210,12 +203,47 @@ module _ {D : Type 0} (p : ℕ → Conversation → Type 0) (honest : D → Type
   changes_or_not R i slots true change same = changes R i slots (change refl)
   changes_or_not R i slots false change same = stays (record s { slots = slots }) (ap (λ (k : SlotsState). record s { slots = k }) (same refl))
 
-  pub hears : (i : ℕ) (piece : List ℕ) (store : StoreState D) (slots : SlotsState) → ChangesSlot (SlotHears (p i) i piece s.store store) i s.slots slots
+  pub changes_some : (R : ℕ → SlotState → SlotState → Type 0) (i : ℕ) (slots : SlotsState) (result : Option ℕ)
+      → IfSome result (λ n. ChangesSlot (R n) i s.slots slots) → IfNone result (slots ≡ s.slots)
+      → Survives honest moment images_since s (record s { slots = slots })
+  changes_some R i slots (Some n) change same = changes (R n) i slots change
+  changes_some R i slots None change same = stays (record s { slots = slots }) (ap (λ (k : SlotsState). record s { slots = k }) same)
+
+  pub parts_or_not : (i : ℕ) (store : StoreState D) (slots : SlotsState) → store ≡ s.store → (parted : Bool)
+      → (parted ≡ true → (farewell : List ℕ) × ChangesSlot (SlotParts (p i) farewell) i s.slots slots) → (parted ≡ false → slots ≡ s.slots)
+      → Survives honest moment images_since s (record s { store = store; slots = slots })
+  parts_or_not i store slots still parted parts same =
+      let P : StoreState D → Type 0 = λ k. Survives honest moment images_since s (record s { store = k; slots = slots }) in
+      subst P (sym still) (by_parted parted parts same)
+    where
+      by_parted : (b : Bool) → (b ≡ true → (farewell : List ℕ) × ChangesSlot (SlotParts (p i) farewell) i s.slots slots) → (b ≡ false → slots ≡ s.slots)
+          → Survives honest moment images_since s (record s { slots = slots })
+      by_parted true parts same = changes (SlotParts (p i) (parts refl).0) i slots (parts refl).1
+      by_parted false parts same = stays (record s { slots = slots }) (ap (λ (k : SlotsState). record s { slots = k }) (same refl))
+
+  hears : (i : ℕ) (piece : List ℕ) (store : StoreState D) (slots : SlotsState) → ChangesSlot (SlotHears (p i) i piece s.store store) i s.slots slots
       → Survives honest moment images_since s (record s { store = store; slots = slots })
   hears i piece store slots change =
       let new : ServiceState D = record s { store = store; slots = slots } in
       still_survives honest moment images_since images only s new (hears_grows p i piece s new (record { hears = change; is = refl }))
       (hears_adds (p i) i piece s.store change.was change.now store change.so).disk recovers
+
+  stays_both : (store : StoreState D) (slots : SlotsState) → slots ≡ s.slots → store ≡ s.store
+      → Survives honest moment images_since s (record s { store = store; slots = slots })
+  stays_both store slots same still = stays (record s { store = store; slots = slots })
+      (ap (λ (k : StoreState D). record s { store = k; slots = slots }) still ∙ ap (λ (k : SlotsState). record s { slots = k }) same)
+
+  pub hears_some : (i : ℕ) (store : StoreState D) (slots : SlotsState) (buffer : ℕ → List ℕ) (result : Option ℕ)
+      → IfSome result (λ n. ChangesSlot (SlotHears (p i) i (buffer n) s.store store) i s.slots slots)
+      → IfNone result ((slots ≡ s.slots) × (store ≡ s.store)) → Survives honest moment images_since s (record s { store = store; slots = slots })
+  hears_some i store slots buffer (Some n) change same = hears i (buffer n) store slots change
+  hears_some i store slots buffer None change same = stays_both store slots same.0 same.1
+
+  pub hears_or_not : (i : ℕ) (store : StoreState D) (slots : SlotsState) (piece : List ℕ) (heard : Bool)
+      → (heard ≡ true → ChangesSlot (SlotHears (p i) i piece s.store store) i s.slots slots)
+      → (heard ≡ false → (slots ≡ s.slots) × (store ≡ s.store)) → Survives honest moment images_since s (record s { store = store; slots = slots })
+  hears_or_not i store slots piece true change same = hears i piece store slots (change refl)
+  hears_or_not i store slots piece false change same = stays_both store slots (same refl).0 (same refl).1
 
   pub turns : (past : List Entry) → past ≡ s.past ++ s.store.history → s.store.covered ≡ length s.store.history → (s.store.failed ≡ true → ⊥)
       → IsQuiet s (record s { store = turned_over s.store; past = past })
@@ -300,13 +328,19 @@ module _ {D : Type 0} (p : ℕ → Conversation → Type 0) where
 
   pub silent_on : (old new : ServiceState D) (next : Event) → old.store.failed ≡ true → Happens p old next new → Silent old new
   silent_on old new (event.Joins i) failed (inl same) = silent_same old new failed same
-  silent_on old new (event.Joins i) failed (inr joins) = silent_slots old new failed joins.is
-  silent_on old new (event.Hears i bytes) failed (inl same) = silent_same old new failed same
-  silent_on old new (event.Hears i bytes) failed (inr hears) = silent_hears i bytes.items old new failed hears
-  silent_on old new (event.Sends i n) failed (inl same) = silent_same old new failed same
-  silent_on old new (event.Sends i n) failed (inr sends) = silent_slots old new failed sends.is
+  silent_on old new (event.Joins i) failed (inr joins) = silent_slots old new failed joins.1.is
+  silent_on old new (event.Hears i) failed (inl same) = silent_same old new failed same
+  silent_on old new (event.Hears i) failed (inr hears) = silent_hears i hears.0 old new failed hears.1
+  silent_on old new (event.GoesOn i) failed (inl same) = silent_same old new failed same
+  silent_on old new (event.GoesOn i) failed (inr hears) = silent_hears i [] old new failed hears
+  silent_on old new (event.Sends i) failed (inl same) = silent_same old new failed same
+  silent_on old new (event.Sends i) failed (inr sends) = silent_slots old new failed sends.1.is
+  silent_on old new (event.Discards i) failed (inl same) = silent_same old new failed same
+  silent_on old new (event.Discards i) failed (inr discards) = silent_slots old new failed discards.is
   silent_on old new (event.Leaves i) failed (inl same) = silent_same old new failed same
   silent_on old new (event.Leaves i) failed (inr leaves) = silent_slots old new failed leaves.is
+  silent_on old new (event.Parts i) failed (inl same) = silent_same old new failed same
+  silent_on old new (event.Parts i) failed (inr parts) = silent_slots old new failed parts.1.is
   silent_on old new event.Commits failed quiet = silent_same old new failed (quiet.failed failed)
   silent_on old new event.Begins failed quiet = silent_same old new failed (quiet.failed failed)
   silent_on old new event.Slices failed quiet = silent_same old new failed (quiet.failed failed)
@@ -323,6 +357,6 @@ module _ {D : Type 0} (p : ℕ → Conversation → Type 0) where
             ∙ ap (λ (k : ℕ). part_of index (drop k (history_of new))) (sym silent.covered) ∙ none);
       }
 
-  pub stuck_silent : (index n : ℕ) (old new : ServiceState D) → IsStuck index old → Happens p old (event.Sends index n) new → new ≡ old
-  stuck_silent index n old new stuck (inl same) = same
-  stuck_silent index n old new stuck (inr sends) = absurd (stuck.pending sends.covered)
+  pub stuck_silent : (index : ℕ) (old new : ServiceState D) → IsStuck index old → Happens p old (event.Sends index) new → new ≡ old
+  stuck_silent index old new stuck (inl same) = same
+  stuck_silent index old new stuck (inr sends) = absurd (stuck.pending sends.1.covered)

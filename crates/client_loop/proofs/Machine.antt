@@ -1,11 +1,12 @@
 -- What a service guarantees, from one call to the next.
 use Rattle.std.proofs.Common.{◌≡◌, ⊎_elim, ℕ, ◌+◌, ◌<◌, ◌≤◌, true, false, Bool, List, [], ◌∷◌, ◌++◌, length, take, refl, sym, ap, subst, ◌∙◌, inl, inr, append-nil, append_assoc, length-append, arith, Ok, Err, zero, suc}
-use Rattle.std.specs.Prelude.{◌↔◌, ◌==◌, IsTrue, replicate, slice_get, slice_set, Some, None, Option, Result, OnOk, OnErr, is_some, nat_lt, ◌||◌, if◌then◌else◌}
+use Rattle.std.specs.Prelude.{◌↔◌, ◌≢◌, ◌==◌, drop, IfErr, IfNone, IfSome, IsTrue, replicate, slice_get, slice_set, Some, None, Option, Result, OnOk, OnErr, is_some, nat_lt, ◌||◌, if◌then◌else◌}
 use Rattle.std.specs.List.{AllByRecursion}
 use Rattle.std.proofs.Math.Nat.{eq-or-lt_of_le}
 use Rattle.std.proofs.lemmas.Bool.Decides.{nat_tests}
 use Rattle.std.proofs.lemmas.List.{length-set, map-append, take_all}
 use Rattle.wf_value.specs.declared.refusal.Refusal.{Refusal}
+use Rattle.act_disk.specs.Failed.{device_failed}
 use Rattle.run_plan.specs.declared.command.Command.{Command}
 use Rattle.run_plan.specs.declared.reply.Reply.{Reply}
 use Rattle.table_model.specs.Step.{after as run_after, replies, stepped}
@@ -17,14 +18,16 @@ use Rattle.act_store.specs.Plain.{broken, checkpoint_order, committed, failed_ea
 use Rattle.act_store.specs.StoreState.{RecoversToEither, RecoversToSome, StoreState}
 use Rattle.act_store.specs.declared.entry.Entry.{Entry}
 use Rattle.act_store.proofs.GroupsOfHistory.{keeps_groups}
-use Rattle.client_loop.specs.Clients.{AreServed, ClientState, SlotHears, SlotJoins, SlotLeaves, SlotSends, SlotState, SlotWrites}
+use Rattle.client_loop.specs.Clients.{AreServed, ClientDiscards, ClientParts, ClientSends, ClientState, SlotChanges, SlotDiscards, SlotHears, SlotJoins, SlotLeaves, SlotParts, SlotSends, SlotState, Wire}
 use Rattle.client_loop.specs.Clients.{clients_of, free_slot, listed}
 use Rattle.client_loop.specs.Conversation.{Conversation, no_conversation}
 use Rattle.client_loop.specs.Entering.{entries_of, part_of}
+use Rattle.client_loop.specs.Events.{IsBroken}
 use Rattle.client_loop.specs.Service.{IsPromised, IsService, ServiceState, covered_of, history_of, pending_of}
 use Rattle.client_loop.specs.Slots.{AllServed, AreFree, ChangesSlot, SlotsState}
-use Rattle.client_loop.proofs.Served.{HearsEither, either_hears, entries_within, extends, other_part, same_item, served_all, served_at, served_beside}
-use Rattle.client_loop.proofs.Served.{served_hears, served_joins, served_sends, within_append}
+use Rattle.client_loop.proofs.PendingPart.{last_part}
+use Rattle.client_loop.proofs.Served.{entries_within, extends, other_part, same_item, served_all, served_at, served_beside}
+use Rattle.client_loop.proofs.Served.{served_discards, served_hears, served_joins, served_parts, served_sends, within_append}
 
 -- ---- lists of entries and the tables that they lead to
 
@@ -113,24 +116,30 @@ module _ {D : Type 0} (p : ℕ → Conversation → Type 0) (s : ServiceState D)
     others = subst (λ (n : ℕ). AllByRecursion (λ (e : Entry). e.seat < n) H) (sym (length-set s.slots.all i now)) service.others;
   }
 
+  -- another state of the client that has a slot
+  changes_at : (R : ClientState → ClientState → Type 0) (i : ℕ) (was now : SlotState) → slice_get s.slots.all i ≡ Some was → SlotChanges R was now
+      → ((c d : ClientState) → R c d → AreServed p H (covered_of s) i (was.earlier ++ c ∷ []) → AreServed p H (covered_of s) i (was.earlier ++ d ∷ []))
+      → IsService p (with_slot s s.store i now)
+  changes_at R i was now at (c, d, here, is, so) own = slots_at i was now at
+      (λ served. subst (λ (l : SlotState). AreServed p H (covered_of s) i (clients_of l)) (sym is)
+      (own c d so (subst (λ (o : Option ClientState). AreServed p H (covered_of s) i (was.earlier ++ listed o)) here served)))
+
   sends_at : (i n : ℕ) (was now : SlotState) → slice_get s.slots.all i ≡ Some was → part_of i (pending_of s) ≡ [] → SlotSends (p i) n was now
       → IsService p (with_slot s s.store i now)
-  sends_at i n was now at none sends = slots_at i was now at
-      (λ served. subst (λ (l : SlotState). AreServed p H (covered_of s) i (clients_of l)) (sym sends.3)
-      (served_sends p H (covered_of s) i inside none n was.earlier sends.0 sends.4
-      (subst (λ (o : Option ClientState). AreServed p H (covered_of s) i (was.earlier ++ listed o)) sends.1 served)))
+  sends_at i n was now at none sends = changes_at (ClientSends (p i) n) i was now at sends (served_sends p H (covered_of s) i inside was.earlier none n)
 
-  writes_at : (i n : ℕ) (out out_new : Option (List ℕ)) (was now : SlotState) → slice_get s.slots.all i ≡ Some was → part_of i (pending_of s) ≡ []
-      → SlotWrites (p i) n out out_new was now → IsService p (with_slot s s.store i now)
-  writes_at i n out out_new was now at none (inl same) =
-      slots_at i was now at (λ served. subst (λ (l : SlotState). AreServed p H (covered_of s) i (clients_of l)) (sym same.1) served)
-  writes_at i n out out_new was now at none (inr wrote) = sends_at i n was now at none wrote.0
-
-  joins_at : (i : ℕ) → p i no_conversation → (was now : SlotState) → slice_get s.slots.all i ≡ Some was → SlotJoins was now
+  parts_at : (i : ℕ) (farewell : List ℕ) (was now : SlotState) → slice_get s.slots.all i ≡ Some was → SlotParts (p i) farewell was now
       → IsService p (with_slot s s.store i now)
-  joins_at i follows was now at joins = slots_at i was now at
+  parts_at i farewell was now at parts = changes_at (ClientParts (p i) farewell) i was now at parts (served_parts p H (covered_of s) i inside was.earlier farewell)
+
+  discards_at : (i : ℕ) (was now : SlotState) → slice_get s.slots.all i ≡ Some was → SlotDiscards was now → IsService p (with_slot s s.store i now)
+  discards_at i was now at discards = changes_at ClientDiscards i was now at discards (served_discards p H (covered_of s) i inside was.earlier)
+
+  joins_at : (i : ℕ) (wire : Wire) → p i no_conversation → (was now : SlotState) → slice_get s.slots.all i ≡ Some was → SlotJoins wire was now
+      → IsService p (with_slot s s.store i now)
+  joins_at i wire follows was now at joins = slots_at i was now at
       (λ served. subst (λ (l : SlotState). AreServed p H (covered_of s) i (clients_of l)) (sym joins.1)
-      (served_joins p H (covered_of s) i inside follows was.earlier
+      (served_joins p H (covered_of s) i inside was.earlier follows wire
       (subst (AreServed p H (covered_of s) i) (append-nil was.earlier)
       (subst (λ (o : Option ClientState). AreServed p H (covered_of s) i (was.earlier ++ listed o)) joins.0 served))))
 
@@ -140,12 +149,9 @@ module _ {D : Type 0} (p : ℕ → Conversation → Type 0) (s : ServiceState D)
       (subst (AreServed p H (covered_of s) i) (sym (append-nil (clients_of was))) served))
 
   hears_at : (i : ℕ) (piece : List ℕ) (store : StoreState D) (was now : SlotState) → slice_get s.slots.all i ≡ Some was → i < length s.slots.all
-      → HearsEither (p i) i piece s.store was store now → IsService p (with_slot s store i now)
-  hears_at i piece store was now at below (inl (same, still)) =
-      let P : StoreState D → Type 0 = λ k. IsService p (with_slot s k i now) in
-      subst P (sym still)
-      (slots_at i was now at (λ served. subst (λ (l : SlotState). AreServed p H (covered_of s) i (clients_of l)) (sym same) served))
-  hears_at i piece store was now at below (inr (c, t, client, new_is, hears, follows)) =
+      → SlotHears (p i) i piece s.store store was now → IsService p (with_slot s store i now)
+  hears_at i piece store was now at below (c, d, client, new_is, h) =
+      let hears = h.hears in
       let more = entries_of i hears.exchanges in
       let grown = extends i s.store store hears.exchanges hears.enters in
       let history_is : history_of (with_slot s store i now) ≡ H ++ more =
@@ -155,7 +161,7 @@ module _ {D : Type 0} (p : ℕ → Conversation → Type 0) (s : ServiceState D)
       served_at p H (H ++ more) (covered_of s) (covered_of s) 0 i s.slots.all now
       (λ found is served. subst (λ (k : ℕ). AreServed p (H ++ more) (covered_of s) k (clients_of now)) (omega arith)
       (subst (λ (l : SlotState). AreServed p (H ++ more) (covered_of s) i (clients_of l)) (sym new_is)
-      (served_hears p H (covered_of s) i inside piece s.store store was.earlier c t hears follows
+      (served_hears p H (covered_of s) i inside was.earlier piece s.store store c d h
       (subst (λ (o : Option ClientState). AreServed p H (covered_of s) i (was.earlier ++ listed o)) client
       (subst (λ (l : SlotState). AreServed p H (covered_of s) i (clients_of l)) (same_item found was (sym is ∙ at))
       (subst (λ (k : ℕ). AreServed p H (covered_of s) k (clients_of found)) (omega arith) served))))))
@@ -231,21 +237,6 @@ module _ {D : Type 0} (follows_by : ℕ → ℕ → Conversation → Type 0) (s 
       let P : SlotsState → Type 0 = λ k. IsService (follows_by k.hooks) (record s { store = store; slots = k }) in
       subst P (sym is) new
 
-  pub service_sends : (i n : ℕ) (slots : SlotsState) → part_of i (pending_of s) ≡ [] → ChangesSlot (SlotSends (p i) n) i s.slots slots
-      → IsService (follows_by slots.hooks) (record s { slots = slots })
-  service_sends i n slots none change =
-      moved s.store i change.now slots change.is (sends_at p s service within i n change.was change.now change.at none change.so)
-
-  pub service_writes : (i n : ℕ) (out out_new : Option (List ℕ)) (slots : SlotsState) → part_of i (pending_of s) ≡ []
-      → ChangesSlot (SlotWrites (p i) n out out_new) i s.slots slots → IsService (follows_by slots.hooks) (record s { slots = slots })
-  service_writes i n out out_new slots none change =
-      moved s.store i change.now slots change.is (writes_at p s service within i n out out_new change.was change.now change.at none change.so)
-
-  pub service_joins : (i : ℕ) (slots : SlotsState) → p i no_conversation → ChangesSlot SlotJoins i s.slots slots
-      → IsService (follows_by slots.hooks) (record s { slots = slots })
-  service_joins i slots follows change =
-      moved s.store i change.now slots change.is (joins_at p s service within i follows change.was change.now change.at change.so)
-
   pub service_leaves : (i : ℕ) (slots : SlotsState) → ChangesSlot SlotLeaves i s.slots slots → IsService (follows_by slots.hooks) (record s { slots = slots })
   service_leaves i slots change =
       moved s.store i change.now slots change.is (leaves_at p s service within i change.was change.now change.at change.so)
@@ -253,25 +244,66 @@ module _ {D : Type 0} (follows_by : ℕ → ℕ → Conversation → Type 0) (s 
   pub service_hears : (i : ℕ) (piece : List ℕ) (store : StoreState D) (slots : SlotsState) → i < length s.slots.all
       → ChangesSlot (SlotHears (p i) i piece s.store store) i s.slots slots → IsService (follows_by slots.hooks) (record s { store = store; slots = slots })
   service_hears i piece store slots below change =
-      moved store i change.now slots change.is
-      (hears_at p s service within i piece store change.was change.now change.at below
-      (either_hears (p i) i piece s.store change.was store change.now change.so))
+      moved store i change.now slots change.is (hears_at p s service within i piece store change.was change.now change.at below change.so)
 
   service_same : (slots : SlotsState) → slots ≡ s.slots → IsService (follows_by slots.hooks) (record s { slots = slots })
   service_same slots same =
       let P : SlotsState → Type 0 = λ k. IsService (follows_by k.hooks) (record s { slots = k }) in
       subst P (sym same) service
 
-  pub service_joins_or_not : (i : ℕ) (slots : SlotsState) → p i no_conversation → (joined : Bool) → (joined ≡ true → ChangesSlot SlotJoins i s.slots slots)
-      → (joined ≡ false → slots ≡ s.slots) → IsService (follows_by slots.hooks) (record s { slots = slots })
-  service_joins_or_not i slots follows true joins same = service_joins i slots follows (joins refl)
-  service_joins_or_not i slots follows false joins same = service_same slots (same refl)
+  same_all : (store : StoreState D) (slots : SlotsState) → slots ≡ s.slots → store ≡ s.store → IsService (follows_by slots.hooks) (record s { store = store; slots = slots })
+  same_all store slots same still =
+      let P : StoreState D → Type 0 = λ k. IsService (follows_by slots.hooks) (record s { store = k; slots = slots }) in
+      subst P (sym still) (service_same slots same)
 
-  pub service_sends_or_not : (i n : ℕ) (slots : SlotsState) → part_of i (pending_of s) ≡ [] → (sent : Bool)
-      → (sent ≡ true → ChangesSlot (SlotSends (p i) n) i s.slots slots) → (sent ≡ false → slots ≡ s.slots)
+  -- of a call that may change nothing
+
+  pub service_hears_some : (i : ℕ) (store : StoreState D) (slots : SlotsState) → i < length s.slots.all → (buffer : ℕ → List ℕ) (result : Option ℕ)
+      → IfSome result (λ n. ChangesSlot (SlotHears (p i) i (buffer n) s.store store) i s.slots slots)
+      → IfNone result ((slots ≡ s.slots) × (store ≡ s.store)) → IsService (follows_by slots.hooks) (record s { store = store; slots = slots })
+  service_hears_some i store slots below buffer (Some n) change same = service_hears i (buffer n) store slots below change
+  service_hears_some i store slots below buffer None change same = same_all store slots same.0 same.1
+
+  pub service_hears_or_not : (i : ℕ) (store : StoreState D) (slots : SlotsState) → i < length s.slots.all → (piece : List ℕ) (heard : Bool)
+      → (heard ≡ true → ChangesSlot (SlotHears (p i) i piece s.store store) i s.slots slots)
+      → (heard ≡ false → (slots ≡ s.slots) × (store ≡ s.store)) → IsService (follows_by slots.hooks) (record s { store = store; slots = slots })
+  service_hears_or_not i store slots below piece true change same = service_hears i piece store slots below (change refl)
+  service_hears_or_not i store slots below piece false change same = same_all store slots (same refl).0 (same refl).1
+
+  pub service_sends_some : (i : ℕ) (slots : SlotsState) → part_of i (pending_of s) ≡ [] → (result : Option ℕ)
+      → IfSome result (λ n. ChangesSlot (SlotSends (p i) n) i s.slots slots) → IfNone result (slots ≡ s.slots)
       → IsService (follows_by slots.hooks) (record s { slots = slots })
-  service_sends_or_not i n slots none true sends same = service_sends i n slots none (sends refl)
-  service_sends_or_not i n slots none false sends same = service_same slots (same refl)
+  service_sends_some i slots none (Some n) change same =
+      moved s.store i change.now slots change.is (sends_at p s service within i n change.was change.now change.at none change.so)
+  service_sends_some i slots none None change same = service_same slots same
+
+  pub service_discards_some : (i : ℕ) (slots : SlotsState) (result : Option ℕ) → IfSome result (λ n. ChangesSlot SlotDiscards i s.slots slots)
+      → IfNone result (slots ≡ s.slots) → IsService (follows_by slots.hooks) (record s { slots = slots })
+  service_discards_some i slots (Some n) change same =
+      moved s.store i change.now slots change.is (discards_at p s service within i change.was change.now change.at change.so)
+  service_discards_some i slots None change same = service_same slots same
+
+  pub service_joins_or_not : (i : ℕ) (wire : Wire) (slots : SlotsState) → p i no_conversation → (joined : Bool)
+      → (joined ≡ true → ChangesSlot (SlotJoins wire) i s.slots slots) → (joined ≡ false → slots ≡ s.slots)
+      → IsService (follows_by slots.hooks) (record s { slots = slots })
+  service_joins_or_not i wire slots follows true joins same =
+      let change = joins refl in
+      moved s.store i change.now slots change.is (joins_at p s service within i wire follows change.was change.now change.at change.so)
+  service_joins_or_not i wire slots follows false joins same = service_same slots (same refl)
+
+  pub service_parts_or_not : (i : ℕ) (store : StoreState D) (slots : SlotsState) → store ≡ s.store → (parted : Bool)
+      → (parted ≡ true → (farewell : List ℕ) × ChangesSlot (SlotParts (p i) farewell) i s.slots slots) → (parted ≡ false → slots ≡ s.slots)
+      → IsService (follows_by slots.hooks) (record s { store = store; slots = slots })
+  service_parts_or_not i store slots still parted parts same =
+      let P : StoreState D → Type 0 = λ k. IsService (follows_by slots.hooks) (record s { store = k; slots = slots }) in
+      subst P (sym still) (by_parted parted parts same)
+    where
+      by_parted : (b : Bool) → (b ≡ true → (farewell : List ℕ) × ChangesSlot (SlotParts (p i) farewell) i s.slots slots) → (b ≡ false → slots ≡ s.slots)
+          → IsService (follows_by slots.hooks) (record s { slots = slots })
+      by_parted true parts same =
+          let change = (parts refl).1 in
+          moved s.store i change.now slots change.is (parts_at p s service within i (parts refl).0 change.was change.now change.at change.so)
+      by_parted false parts same = service_same slots (same refl)
 
 -- ---- a commit, and a turn-over
 
@@ -293,6 +325,14 @@ module _ {D : Type 0} (old new : StoreState D) where
       by_failed true is = keeps_by old (failed is).1 refl refl
       by_failed false is = keeps_by (broken old new.disk) (broke is) refl refl
 
+pub commit_breaks : {D : Type 0} (s : ServiceState D) (store : StoreState D) (result : Result ℕ Refusal)
+    → IfErr result (λ e. s.store.failed ≡ false → e ≡ device_failed) → OnErr result (s.store.failed ≡ false → s.store.covered < length s.store.history)
+    → OnErr result (s.store.failed ≡ false → store ≡ broken s.store store.disk)
+    → IfErr result (λ e. s.store.failed ≡ false → (e ≡ device_failed) × IsBroken s (record s { store = store }))
+commit_breaks s store (Ok n) told pending broke = tt
+commit_breaks {D} s store (Err e) told pending broke = λ live.
+    (told live, record { pending = pending live; is = ap (λ (t : StoreState D). record s { store = t }) (broke live) })
+
 none_pending : (failed begun pending : Bool) → (if failed then Some failed_earlier else (if begun || pending then Some checkpoint_order else None)) ≡ None
     → pending ≡ false
 none_pending true begun pending is = cc
@@ -308,6 +348,16 @@ all_covered s none within =
     let least : length s.history ≤ s.covered = not_less s.covered (length s.history)
     (none_pending s.failed (is_some s.begun) (nat_lt s.covered (length s.history)) none) in
     omega arith
+
+-- a store with an entry that is not covered does not turn over
+pub turns_none : {D A : Type 0} (s new : StoreState D) (number : ℕ) (result : Result A Refusal) → s.covered ≤ length s.history
+    → part_of number (drop s.covered s.history) ≢ [] → IfSome (refusal_of_turn_over s) (λ e. result ≡ Err e) → OnErr result (new ≡ s) → new ≡ s
+turns_none s new number (Err e) within pending refused same = same
+turns_none {D} {A} s new number (Ok a) within pending refused same = by_cause (refusal_of_turn_over s) refl refused
+  where
+    by_cause : (o : Option Refusal) → refusal_of_turn_over s ≡ o → IfSome o (λ e. ◌≡◌ {A = Result A Refusal} (Ok a) (Err e)) → new ≡ s
+    by_cause None none refused = absurd (pending (last_part number s.covered s.history (all_covered s none within)))
+    by_cause (Some e) is refused = cc
 
 -- whether every entry is covered
 pub covered_test : (past h : List Entry) (covered first entries : ℕ) → first ≡ covered → entries ≡ length h → covered ≤ length h

@@ -1,9 +1,10 @@
 -- The entries under a number that are not covered.
-use Rattle.std.proofs.Common.{◌≡◌, ◌≢◌, ℕ, ◌+◌, ◌-◌, ◌<◌, ◌==◌, Bool, true, false, List, [], ◌∷◌, ◌++◌, length, refl, sym, ap, ◌∙◌, arith, zero, suc}
+use Rattle.std.proofs.Common.{◌≡◌, ◌≢◌, ℕ, ◌+◌, ◌-◌, ◌<◌, ◌==◌, Bool, true, false, List, [], ◌∷◌, ◌++◌, length, not, refl, sym, ap, ◌∙◌, arith, zero, suc}
 use Rattle.std.specs.Prelude.{◌↔◌, IsTrue, drop, slice_get, Option, Some, None, if◌then◌else◌}
 use Rattle.std.proofs.lemmas.Bool.Decides.{nat_tests}
 use Rattle.act_store.specs.declared.entry.Entry.{Entry}
 use Rattle.client_loop.specs.Entering.{IsUnder, part_of}
+use Rattle.client_loop.specs.Service.{IsStuck, ServiceState}
 
 same_entry : (d e : Entry) → ◌≡◌ {A = Option Entry} (Some d) (Some e) → d ≡ e
 same_entry d e is = cc
@@ -70,3 +71,28 @@ some_pending number covered k h is same under one =
 pub none_pending : (number covered k : ℕ) (h : List Entry) → part_of number (drop covered h) ≡ part_of number (drop k h) → k ≡ length h
     → IsTrue true ↔ (part_of number (drop covered h) ≡ [])
 none_pending number covered k h same all = (λ _. same ∙ last_part number k h all, λ none. refl)
+
+-- ---- after a fault
+
+pub stuck_of : {D : Type 0} (s : ServiceState D) (index : ℕ) → s.store.failed ≡ true → part_of index (drop s.store.covered s.store.history) ≢ [] → IsStuck index s
+stuck_of s index failed pending = record {
+  failed = failed;
+  pending = λ none. pending (ap (part_of index) (sym (drop_past s.past s.store.history s.store.covered)) ∙ none);
+}
+
+pub is_pending : (b : Bool) (X : Type 0) → b ≡ false → IsTrue b ↔ X → X → ⊥
+is_pending true X isnt test x = cc
+is_pending false X isnt test x = let is : false ≡ true = test.1 x in cc
+
+-- ---- whether bytes are left
+
+is_not : (b : Bool) → not b ≡ false → b ≡ true
+is_not true e = refl
+is_not false e = cc
+
+empty_of : (xs : List ℕ) → (length xs == 0) ≡ true → xs ≡ []
+empty_of [] e = refl
+empty_of (x ∷ xs) e = let none : length (x ∷ xs) ≡ 0 = grind (arith, nat_tests, e) in absurd (omega (arith, none))
+
+pub none_after : (b : Bool) (l m : List ℕ) → m ≡ l → b ≡ (length m == 0) → not b ≡ false → l ≡ []
+none_after b l m same is uncut = sym same ∙ empty_of m (sym is ∙ is_not b uncut)

@@ -1,6 +1,6 @@
 -- Slots of two ports under one numbering.
 use Rattle.std.proofs.Common.{◌≡◌, ℕ, ◌+◌, ◌-◌, ◌<◌, ◌≤◌, Bool, true, false, List, [], ◌∷◌, ◌++◌, length, get_or, refl, sym, ap, subst, ◌∙◌, arith, zero, suc, length-append}
-use Rattle.std.specs.Prelude.{nat_lt, replicate, slice_get, slice_set, Option, Some}
+use Rattle.std.specs.Prelude.{IfNone, IfSome, nat_lt, replicate, slice_get, slice_set, Option, Some, None}
 use Rattle.std.proofs.lemmas.Bool.Decides.{nat_tests}
 use Rattle.std.proofs.lemmas.List.{length-set, set-append_left, set-append_right}
 use Rattle.std.proofs.lemmas.Option.{slice_get_read}
@@ -121,3 +121,40 @@ nobody_follows {F} {G} hooks p q index some_p some_q = at (nat_lt index hooks)
     at : (b : Bool) → FollowsAt p q b no_conversation
     at true = (at_first p [] [] [] [] [] some_p refl refl refl refl refl).follows
     at false = (at_first q [] [] [] [] [] some_q refl refl refl refl refl).follows
+
+-- ---- of a call that may change nothing
+
+pub some_then : (result : Option ℕ) (P Q : ℕ → Type 0) → ((n : ℕ) → P n → Q n) → IfSome result P → IfSome result Q
+some_then None P Q then so = tt
+some_then (Some n) P Q then so = then n so
+
+pub none_then : (result : Option ℕ) (X Y : Type 0) → (X → Y) → IfNone result X → IfNone result Y
+none_then None X Y then so = then so
+none_then (Some n) X Y then so = tt
+
+module _ {F G : Type 0} (R : ℕ → (Conversation → Type 0) → SlotState → SlotState → Type 0) (p : Rules F) (q : Rules G) (index : ℕ)
+    (hooks runners : List SlotState) (now : SlotState) where
+  pub some_hook : (o : SlotsState) → both hooks runners ≡ o → index < length hooks → (was : SlotState) → was ≡ get_or hooks index was
+      → (result : Option ℕ) → IfSome result (λ n. R n (Follows p) was now)
+      → IfSome result (λ n. ChangesSlot (R n (by_port o.hooks p q index)) index o (both (slice_set hooks index now) runners))
+  some_hook o view less was read None so = tt
+  some_hook o view less was read (Some n) so = changes_hook (R n) p q index hooks runners now o view less was read so
+
+  pub some_runner : (o : SlotsState) → both hooks runners ≡ o → index < length o.all → (n : ℕ) → n ≡ length hooks → n ≤ index
+      → (was : SlotState) → was ≡ get_or runners (index - n) was → (result : Option ℕ) → IfSome result (λ k. R k (Follows q) was now)
+      → IfSome result (λ k. ChangesSlot (R k (by_port o.hooks p q index)) index o (both hooks (slice_set runners (index - n) now)))
+  some_runner o view below n count least was read None so = tt
+  some_runner o view below n count least was read (Some k) so = changes_runner (R k) p q index hooks runners now o view below n count least was read so
+
+module _ {F G : Type 0} (R : List ℕ → (Conversation → Type 0) → SlotState → SlotState → Type 0) (p : Rules F) (q : Rules G) (index : ℕ)
+    (hooks runners : List SlotState) (now : SlotState) where
+  pub with_hook : (o : SlotsState) → both hooks runners ≡ o → index < length hooks → (was : SlotState) → was ≡ get_or hooks index was
+      → (bytes : List ℕ) × R bytes (Follows p) was now
+      → (bytes : List ℕ) × ChangesSlot (R bytes (by_port o.hooks p q index)) index o (both (slice_set hooks index now) runners)
+  with_hook o view less was read (bytes, so) = (bytes, changes_hook (R bytes) p q index hooks runners now o view less was read so)
+
+  pub with_runner : (o : SlotsState) → both hooks runners ≡ o → index < length o.all → (n : ℕ) → n ≡ length hooks → n ≤ index
+      → (was : SlotState) → was ≡ get_or runners (index - n) was → (bytes : List ℕ) × R bytes (Follows q) was now
+      → (bytes : List ℕ) × ChangesSlot (R bytes (by_port o.hooks p q index)) index o (both hooks (slice_set runners (index - n) now))
+  with_runner o view below n count least was read (bytes, so) =
+      (bytes, changes_runner (R bytes) p q index hooks runners now o view below n count least was read so)

@@ -105,3 +105,14 @@ live_or false begun pending is h = cc
 
 pub turns_live : {D : Type 0} (s : StoreState D) → refusal_of_turn_over s ≡ None → s.failed ≡ true → ⊥
 turns_live s none h = live_or s.failed (is_some s.begun) (nat_lt s.covered (length s.history)) none h
+
+failed_or : (failed begun pending : Bool)
+    → (if failed then Some failed_earlier else (if begun || pending then Some checkpoint_order else None)) ≡ Some failed_earlier → failed ≡ true
+failed_or true begun pending is = refl
+failed_or false true pending is = cc
+failed_or false false true is = cc
+failed_or false false false is = cc
+
+-- only a store that has failed refuses a turn-over so
+pub failed_refusal : {D : Type 0} (s : StoreState D) → refusal_of_turn_over s ≡ Some failed_earlier → s.failed ≡ true
+failed_refusal s is = failed_or s.failed (is_some s.begun) (nat_lt s.covered (length s.history)) is

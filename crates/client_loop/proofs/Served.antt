@@ -8,8 +8,11 @@ use Rattle.std.proofs.lemmas.List.Elements.{filter-append}
 use Rattle.act_sessions.specs.Exchange.{Exchange}
 use Rattle.act_store.specs.StoreState.{StoreState}
 use Rattle.act_store.specs.declared.entry.Entry.{Entry}
-use Rattle.client_loop.specs.Clients.{AreClients, AreDurable, AreServed, ClientState, HearsAt, HearsBy, IsClient, IsDurable, IsSince, SlotHears, SlotState}
-use Rattle.client_loop.specs.Clients.{after_sending, clients_of, exchanges_by, new_client, sent_of, with_client}
+use Rattle.std.specs.Io.KnownBytes.{Appends, Consumes}
+use Rattle.std.proofs.KnownBytes.{Appends-nil, Appends-trans, Consumes-nil, Consumes-trans}
+use Rattle.client_loop.specs.Clients.{AreClients, AreDurable, AreServed, ClientDiscards, ClientHears, ClientParts, ClientSends, ClientState, HasOwnStream}
+use Rattle.client_loop.specs.Clients.{IsClient, IsDurable, IsSince, SlotState, Wire}
+use Rattle.client_loop.specs.Clients.{all_sent, clients_of, exchanges_by, farewell_in, new_client, parted_of, sent_of}
 use Rattle.client_loop.specs.Conversation.{Conversation, no_conversation}
 use Rattle.client_loop.specs.Entering.{Enters, EntersOne, entries_of, entries_of_one, part_of}
 use Rattle.client_loop.specs.Hearing.{Hears}
@@ -151,16 +154,17 @@ module _ (history more : List Entry) (covered covered_new number : ℕ) (within 
 
 -- ---- what happens to a client
 
-since_hears : (was old new : Conversation) (received : List ℕ) (exchanges : List Exchange) (text : List ℕ) → new.sent ≡ old.sent → new.received ≡ old.received ++ received
+since_hears : (was old new : Conversation) (received : List ℕ) (exchanges : List Exchange) (text : List ℕ) → new.sent ≡ old.sent → new.parted ≡ old.parted → new.received ≡ old.received ++ received
     → new.exchanges ≡ old.exchanges ++ exchanges → new.withheld ≡ old.withheld ++ text → IsSince was old → IsSince was new
-since_hears was old new received exchanges text sent_is received_is exchanges_are withheld_is since = record {
+since_hears was old new received exchanges text sent_is parted_is received_is exchanges_are withheld_is since = record {
   sent_is = sent_is ∙ since.sent_is;
   received = since.received ++ received;
   received_is = received_is ∙ ap (λ (l : List ℕ). l ++ received) since.received_is ∙ append_assoc was.received since.received received;
   exchanges = since.exchanges ++ exchanges;
   exchanges_are = exchanges_are ∙ ap (λ (l : List Exchange). l ++ exchanges) since.exchanges_are ∙ append_assoc was.exchanges since.exchanges exchanges;
   text = since.text ++ text;
-  withheld_is = withheld_is ∙ ap (λ (l : List ℕ). l ++ text) since.withheld_is ∙ append_assoc was.withheld since.text text;
+  withheld_is = λ unparted.
+      withheld_is ∙ ap (λ (l : List ℕ). l ++ text) (since.withheld_is (sym parted_is ∙ unparted)) ∙ append_assoc was.withheld since.text text;
 }
 
 pub since_now : (t : Conversation) → IsSince t t
@@ -171,55 +175,179 @@ since_now t = record {
   exchanges = [];
   exchanges_are = sym (append-nil t.exchanges);
   text = [];
-  withheld_is = sym (append-nil t.withheld);
+  withheld_is = λ unparted. sym (append-nil t.withheld);
 }
 
-module _ {D : Type 0} (p : ℕ → Conversation → Type 0) (history : List Entry) (covered number : ℕ) (within : covered ≤ length history) where
-  pub served_hears : (piece : List ℕ) (store store_new : StoreState D) (earlier : List ClientState) (c : ClientState) (t : Conversation)
-      → (hears : Hears number piece store c.now store_new t) → p number t → AreServed p history covered number (earlier ++ c ∷ [])
-      → AreServed p (history ++ entries_of number hears.exchanges) covered number (earlier ++ record { now = t; released = c.released } ∷ [])
-  served_hears piece store store_new earlier c t hears follows served =
-      let xs = hears.exchanges in
-      let clients = clients_split (p number) earlier c served.each in
-      let durable = durable_split history covered number [] earlier c served.durable in
-      let later : ClientState = record { now = t; released = c.released } in
-      record {
-        each = clients_snoc (p number) earlier later clients.0 (record {
-          now = follows;
-          released = clients.1.released;
-          since = since_hears c.released c.now t piece xs hears.text hears.sent_is hears.received_is hears.exchanges_are hears.withheld_is clients.1.since;
-        });
-        part =
-            part-append number history (entries_of number xs)
-            ∙ ap (λ (l : List Entry). l ++ part_of number (entries_of number xs)) (served.part ∙ ap (entries_of number) (exchanges_snoc earlier c))
-            ∙ ap (λ (l : List Entry). entries_of number (exchanges_by earlier ++ c.now.exchanges) ++ l) (own_part number xs)
-            ∙ sym (entries-append number (exchanges_by earlier ++ c.now.exchanges) xs)
-            ∙ ap (entries_of number) (append_assoc (exchanges_by earlier) c.now.exchanges xs ∙ ap (λ (l : List Exchange). exchanges_by earlier ++ l) (sym hears.exchanges_are)
-            ∙ sym (exchanges_snoc earlier later));
-        durable = durable_snoc (history ++ entries_of number xs) covered number [] earlier later
-            (all_durable_grow history (entries_of number xs) covered covered number within (omega arith) [] earlier durable.0)
-            (one_durable_grows history (entries_of number xs) covered covered number within (omega arith) (exchanges_by earlier) c durable.1);
-      }
+some_is_none : (l : List ℕ) → ◌≡◌ {A = Option (List ℕ)} (Some l) None → ⊥
+some_is_none l is = cc
 
-module _ (p : ℕ → Conversation → Type 0) (history : List Entry) (covered number : ℕ) (within : covered ≤ length history) where
-  pub served_sends : part_of number (drop covered history) ≡ [] → (n : ℕ) (earlier : List ClientState) (c : ClientState) → p number (sent_of c.now n)
-      → AreServed p history covered number (earlier ++ c ∷ []) → AreServed p history covered number (earlier ++ after_sending c n ∷ [])
-  served_sends none n earlier c follows served =
+since_parts : (was old : Conversation) (farewell : List ℕ) → IsSince was old → IsSince was (parted_of old farewell)
+since_parts was old farewell since = record {
+  sent_is = since.sent_is;
+  received = since.received;
+  received_is = since.received_is;
+  exchanges = since.exchanges;
+  exchanges_are = since.exchanges_are;
+  text = since.text;
+  withheld_is = λ unparted. absurd (some_is_none farewell unparted);
+}
+
+-- ---- its own stream
+
+same_wrote : (a b c : Option (List ℕ)) (sent sent_new : List ℕ) → c ≡ b → sent_new ≡ sent → Appends a b sent → Appends a c sent_new
+same_wrote a b c sent sent_new kept same wrote = subst (λ (l : List ℕ). Appends a c l) (sym same) (subst (λ (o : Option (List ℕ)). Appends a o sent) (sym kept) wrote)
+
+same_read : (a b c : Option (List ℕ)) (bytes : List ℕ) → c ≡ b → Consumes a b bytes → Consumes a c bytes
+same_read a b c bytes kept read = subst (λ (o : Option (List ℕ)). Consumes a o bytes) (sym kept) read
+
+not_both : (b : Bool) → b ≡ false → b ≡ true → ⊥
+not_both true isnt is = cc
+not_both false isnt is = cc
+
+own_begins : (wire : Wire) → HasOwnStream (new_client wire)
+own_begins wire = record { discarded = []; live = λ live. refl; read = Consumes-nil wire.remaining; wrote = Appends-nil wire.contents }
+
+-- a piece is heard
+own_hears : (c : ClientState) (t : Conversation) (w : Wire) (piece : List ℕ) → c.now.over ≡ false → Consumes c.wire.remaining w.remaining piece
+    → w.contents ≡ c.wire.contents → t.received ≡ c.now.received ++ piece → t.sent ≡ c.now.sent → t.parted ≡ c.now.parted → HasOwnStream c
+    → HasOwnStream (record c { now = t; wire = w })
+own_hears c t w piece live read kept received_is sent_is parted_is own =
+    let begun : Consumes c.began.remaining c.wire.remaining c.now.received =
+    subst (λ (l : List ℕ). Consumes c.began.remaining c.wire.remaining l)
+    (ap (λ (l : List ℕ). c.now.received ++ l) (own.live live) ∙ append-nil c.now.received) own.read in
+    let all : Consumes c.began.remaining w.remaining (c.now.received ++ piece) =
+    Consumes-trans c.began.remaining c.wire.remaining w.remaining c.now.received piece begun read in
+    record {
+      discarded = [];
+      live = λ still. refl;
+      read = subst (λ (l : List ℕ). Consumes c.began.remaining w.remaining l) (sym (append-nil t.received ∙ received_is)) all;
+      wrote = same_wrote c.began.contents c.wire.contents w.contents (all_sent c.now) (all_sent t) kept
+          (ap (λ (l : List ℕ). l ++ farewell_in t.parted) sent_is ∙ ap (λ (o : Option (List ℕ)). c.now.sent ++ farewell_in o) parted_is) own.wrote;
+    }
+
+-- more was written: bytes of answers, or a farewell
+own_writes : (c : ClientState) (t : Conversation) (w : Wire) (bytes : List ℕ) → Appends c.wire.contents w.contents bytes → w.remaining ≡ c.wire.remaining
+    → t.received ≡ c.now.received → (t.over ≡ false → c.now.over ≡ false) → all_sent t ≡ all_sent c.now ++ bytes → (released : Conversation) → HasOwnStream c
+    → HasOwnStream (record c { now = t; released = released; wire = w })
+own_writes c t w bytes wrote kept received_is still sent_is released own = record {
+  discarded = own.discarded;
+  live = λ live. own.live (still live);
+  read = subst (λ (l : List ℕ). Consumes c.began.remaining w.remaining (l ++ own.discarded)) (sym received_is)
+      (same_read c.began.remaining c.wire.remaining w.remaining (c.now.received ++ own.discarded) kept own.read);
+  wrote = subst (λ (l : List ℕ). Appends c.began.contents w.contents l) (sym sent_is)
+      (Appends-trans c.began.contents c.wire.contents w.contents (all_sent c.now) bytes own.wrote wrote);
+}
+
+-- what came after its session
+own_discards : (c : ClientState) (w : Wire) (piece : List ℕ) → c.now.over ≡ true → Consumes c.wire.remaining w.remaining piece
+    → w.contents ≡ c.wire.contents → HasOwnStream c → HasOwnStream (record c { wire = w })
+own_discards c w piece over read kept own = record {
+  discarded = own.discarded ++ piece;
+  live = λ live. absurd (not_both c.now.over live over);
+  read = subst (λ (l : List ℕ). Consumes c.began.remaining w.remaining l) (append_assoc c.now.received own.discarded piece)
+      (Consumes-trans c.began.remaining c.wire.remaining w.remaining (c.now.received ++ own.discarded) piece own.read read);
+  wrote = same_wrote c.began.contents c.wire.contents w.contents (all_sent c.now) (all_sent c.now) kept refl own.wrote;
+}
+
+-- ---- what happens to the client that has a slot
+
+module _ (p : ℕ → Conversation → Type 0) (history : List Entry) (covered number : ℕ) (within : covered ≤ length history) (earlier : List ClientState) where
+  abbrev Has : ClientState → Type 0
+  Has c = AreServed p history covered number (earlier ++ c ∷ [])
+
+  module _ {D : Type 0} where
+    pub served_hears : (piece : List ℕ) (store store_new : StoreState D) (c d : ClientState) (hears : ClientHears (p number) number piece store store_new c d)
+        → Has c → AreServed p (history ++ entries_of number hears.hears.exchanges) covered number (earlier ++ d ∷ [])
+    served_hears piece store store_new c d h served =
+        let xs = h.hears.exchanges in
+        let clients = clients_split (p number) earlier c served.each in
+        let durable = durable_split history covered number [] earlier c served.durable in
+        let later : ClientState = record c { now = h.now; wire = h.wire } in
+        let k = h.hears in
+        subst (λ (e : ClientState). AreServed p (history ++ entries_of number xs) covered number (earlier ++ e ∷ [])) (sym h.is) (record {
+          each = clients_snoc (p number) earlier later clients.0 (record {
+            now = h.follows_is;
+            released = clients.1.released;
+            since = since_hears c.released c.now h.now piece xs k.text k.sent_is k.parted_is k.received_is k.exchanges_are k.withheld_is clients.1.since;
+            own = own_hears c h.now h.wire piece h.live h.read h.kept k.received_is k.sent_is k.parted_is clients.1.own;
+          });
+          part =
+              part-append number history (entries_of number xs)
+              ∙ ap (λ (l : List Entry). l ++ part_of number (entries_of number xs)) (served.part ∙ ap (entries_of number) (exchanges_snoc earlier c))
+              ∙ ap (λ (l : List Entry). entries_of number (exchanges_by earlier ++ c.now.exchanges) ++ l) (own_part number xs)
+              ∙ sym (entries-append number (exchanges_by earlier ++ c.now.exchanges) xs)
+              ∙ ap (entries_of number) (append_assoc (exchanges_by earlier) c.now.exchanges xs ∙ ap (λ (l : List Exchange). exchanges_by earlier ++ l) (sym k.exchanges_are)
+              ∙ sym (exchanges_snoc earlier later));
+          durable = durable_snoc (history ++ entries_of number xs) covered number [] earlier later
+              (all_durable_grow history (entries_of number xs) covered covered number within (omega arith) [] earlier durable.0)
+              (one_durable_grows history (entries_of number xs) covered covered number within (omega arith) (exchanges_by earlier) c durable.1);
+        })
+
+  pub served_sends : part_of number (drop covered history) ≡ [] → (n : ℕ) (c d : ClientState) → ClientSends (p number) n c d → Has c → Has d
+  served_sends none n c d sends served =
       let clients = clients_split (p number) earlier c served.each in
       let durable = durable_split history covered number [] earlier c served.durable in
-      let later : ClientState = after_sending c n in
-      record {
-        each = clients_snoc (p number) earlier later clients.0 (record { now = follows; released = follows; since = since_now (sent_of c.now n) });
+      let t = sent_of c.now n in
+      let later : ClientState = record c { now = t; released = t; wire = sends.wire } in
+      let sent_is : all_sent t ≡ all_sent c.now ++ take n c.now.withheld =
+      ap (λ (o : Option (List ℕ)). (c.now.sent ++ take n c.now.withheld) ++ farewell_in o) sends.unparted
+      ∙ append-nil (c.now.sent ++ take n c.now.withheld)
+      ∙ ap (λ (l : List ℕ). l ++ take n c.now.withheld) (sym (append-nil c.now.sent))
+      ∙ ap (λ (o : Option (List ℕ)). (c.now.sent ++ farewell_in o) ++ take n c.now.withheld) (sym sends.unparted) in
+      subst Has (sym sends.is) (record {
+        each = clients_snoc (p number) earlier later clients.0 (record {
+          now = sends.follows_is;
+          released = sends.follows_is;
+          since = since_now t;
+          own = own_writes c t sends.wire (take n c.now.withheld) sends.wrote sends.kept refl (λ live. live) sent_is t clients.1.own;
+        });
         part = served.part ∙ ap (entries_of number) (exchanges_snoc earlier c ∙ sym (exchanges_snoc earlier later));
         durable = durable_snoc history covered number [] earlier later durable.0
             (inr (covered, omega arith, covered_part number covered history none ∙ served.part ∙ ap (entries_of number) (exchanges_snoc earlier c)));
-      }
+      })
 
-  pub served_joins : p number no_conversation → (cs : List ClientState) → AreServed p history covered number cs → AreServed p history covered number (cs ++ new_client ∷ [])
-  served_joins follows cs served = record {
-    each = clients_snoc (p number) cs new_client served.each (record { now = follows; released = follows; since = since_now no_conversation });
-    part = served.part ∙ ap (entries_of number) (sym (exchanges_snoc cs new_client ∙ append-nil (exchanges_by cs)));
-    durable = durable_snoc history covered number [] cs new_client served.durable (inl refl);
+  pub served_parts : (farewell : List ℕ) (c d : ClientState) → ClientParts (p number) farewell c d → Has c → Has d
+  served_parts farewell c d parts served =
+      let clients = clients_split (p number) earlier c served.each in
+      let durable = durable_split history covered number [] earlier c served.durable in
+      let t = parted_of c.now farewell in
+      let later : ClientState = record c { now = t; wire = parts.wire } in
+      let sent_is : all_sent t ≡ all_sent c.now ++ farewell =
+      ap (λ (l : List ℕ). l ++ farewell) (sym (append-nil c.now.sent))
+      ∙ ap (λ (o : Option (List ℕ)). (c.now.sent ++ farewell_in o) ++ farewell) (sym parts.unparted) in
+      subst Has (sym parts.is) (record {
+        each = clients_snoc (p number) earlier later clients.0 (record {
+          now = parts.follows_is;
+          released = clients.1.released;
+          since = since_parts c.released c.now farewell clients.1.since;
+          own = own_writes c t parts.wire farewell parts.wrote parts.kept refl (λ live. cc) sent_is c.released clients.1.own;
+        });
+        part = served.part ∙ ap (entries_of number) (exchanges_snoc earlier c ∙ sym (exchanges_snoc earlier later));
+        durable = durable_snoc history covered number [] earlier later durable.0 durable.1;
+      })
+
+  pub served_discards : (c d : ClientState) → ClientDiscards c d → Has c → Has d
+  served_discards c d discards served =
+      let clients = clients_split (p number) earlier c served.each in
+      let durable = durable_split history covered number [] earlier c served.durable in
+      let later : ClientState = record c { wire = discards.wire } in
+      subst Has (sym discards.is) (record {
+        each = clients_snoc (p number) earlier later clients.0 (record {
+          now = clients.1.now;
+          released = clients.1.released;
+          since = clients.1.since;
+          own = own_discards c discards.wire discards.piece discards.over discards.read discards.kept clients.1.own;
+        });
+        part = served.part ∙ ap (entries_of number) (exchanges_snoc earlier c ∙ sym (exchanges_snoc earlier later));
+        durable = durable_snoc history covered number [] earlier later durable.0 durable.1;
+      })
+
+  pub served_joins : p number no_conversation → (wire : Wire) → AreServed p history covered number earlier → Has (new_client wire)
+  served_joins follows wire served = record {
+    each = clients_snoc (p number) earlier (new_client wire) served.each
+        (record { now = follows; released = follows; since = since_now no_conversation; own = own_begins wire });
+    part = served.part ∙ ap (entries_of number) (sym (exchanges_snoc earlier (new_client wire) ∙ append-nil (exchanges_by earlier)));
+    durable = durable_snoc history covered number [] earlier (new_client wire) served.durable (inl refl);
   }
 
 -- ---- all slots
@@ -271,26 +399,6 @@ entries_within n number below ((c, Err e) ∷ xs) = entries_within n number belo
 
 pub same_item : (cs ds : SlotState) → ◌≡◌ {A = Option SlotState} (Some cs) (Some ds) → cs ≡ ds
 same_item cs ds is = cc
-
--- A piece that is heard, or nothing.
-abbrev pub HearsEither : {D : Type 0} → (Conversation → Type 0) → ℕ → List ℕ → StoreState D → SlotState → StoreState D → SlotState → Type 0
-HearsEither follows number piece store old store_new new =
-    ((new ≡ old) × (store_new ≡ store))
-    ⊎ ((c : ClientState) × (t : Conversation) × (old.client ≡ Some c) × (new ≡ with_client old (record { now = t; released = c.released }))
-    × Hears number piece store c.now store_new t × follows t)
-
-module _ {D : Type 0} (follows : Conversation → Type 0) (number : ℕ) (piece : List ℕ) (store : StoreState D) (old : SlotState) (store_new : StoreState D) (new : SlotState) where
-  by_over : (c : ClientState) → old.client ≡ Some c → (over : Bool) → HearsBy follows number piece store old store_new new c over
-      → HearsEither follows number piece store old store_new new
-  by_over c here true h = inl h
-  by_over c here false h = inr (c, h.0, here, h.1, h.2, h.3)
-
-  by_here : (o : Option ClientState) → old.client ≡ o → HearsAt follows number piece store old store_new new o → HearsEither follows number piece store old store_new new
-  by_here None here h = inl h
-  by_here (Some c) here h = by_over c here c.now.over h
-
-  pub either_hears : SlotHears follows number piece store store_new old new → HearsEither follows number piece store old store_new new
-  either_hears h = by_here old.client refl h
 
 -- what a client was sent stays in each longer part of the history
 pub stays_released : (history : List Entry) (covered count number : ℕ) (before : List Exchange) (c : ClientState) → IsDurable history covered number before c → covered ≤ count

@@ -1,6 +1,6 @@
 -- The clients of a slot, one after another, and what holds of them beside a history.
-use Rattle.std.specs.Prelude.{◌≡◌, ◌⊎◌, ℕ, ◌≤◌, List, [], ◌∷◌, ◌++◌, length, take, drop, flat_map, Option, Some, None, ⊤, Bool, true, false, not, ◌&&◌, ◌==◌}
-use Rattle.std.specs.Io.KnownBytes.{Appends}
+use Rattle.std.specs.Prelude.{◌≡◌, ◌≢◌, ◌⊎◌, ℕ, ◌≤◌, List, [], ◌∷◌, ◌++◌, length, take, drop, flat_map, Option, Some, None, ⊤, Bool, true, false, not, ◌&&◌, ◌==◌}
+use Rattle.std.specs.Io.KnownBytes.{Appends, Consumes}
 use Rattle.act_sessions.specs.Exchange.{Exchange}
 use Rattle.act_store.specs.StoreState.{StoreState}
 use Rattle.act_store.specs.declared.entry.Entry.{Entry}
@@ -9,13 +9,24 @@ use Rattle.client_loop.specs.Entering.{entries_of, part_of}
 use Rattle.client_loop.specs.Hearing.{Hears}
 use Rattle.client_loop.specs.declared.status.ClientStatus.{ClientStatus}
 
--- a client: its conversation now, and as it was when bytes were last sent to it
+-- a stream: the bytes that it will give, and all that were written to it, where they are known
+pub record Wire : Type 0 where
+  pub remaining : Option (List ℕ)
+  pub contents : Option (List ℕ)
+
+-- what is known of a stream, by what its type says
+abbrev pub wire_of : {S : Type 0} → (S → Option (List ℕ)) → (S → Option (List ℕ)) → S → Wire
+wire_of remaining contents stream = record { remaining = remaining stream; contents = contents stream }
+
+-- a client: its conversation now, and as it was when bytes were last sent to it; its own stream now, and as it was when the client came
 pub record ClientState : Type 0 where
   pub now : Conversation
   pub released : Conversation
+  pub wire : Wire
+  pub began : Wire
 
-abbrev pub new_client : ClientState
-new_client = record { now = no_conversation; released = no_conversation }
+abbrev pub new_client : Wire → ClientState
+new_client wire = record { now = no_conversation; released = no_conversation; wire = wire; began = wire }
 
 abbrev pub status_of : ClientState → ClientStatus
 status_of c = record { over = c.now.over; more = c.now.more; withheld = length c.now.withheld }
@@ -50,10 +61,27 @@ without_client slot = record { earlier = clients_of slot; client = None }
 abbrev pub sent_of : Conversation → ℕ → Conversation
 sent_of c n = record c { sent = c.sent ++ take n c.withheld; withheld = drop n c.withheld }
 
-abbrev pub after_sending : ClientState → ℕ → ClientState
-after_sending c n = record { now = sent_of c.now n; released = sent_of c.now n }
+-- the conversation once the service has parted with the client: what was withheld is dropped, and these bytes were sent in its place
+abbrev pub parted_of : Conversation → List ℕ → Conversation
+parted_of c farewell = record c { withheld = []; over = true; parted = Some farewell }
 
--- Since then the client was heard, and nothing was sent to it.
+-- all bytes that were sent
+abbrev pub farewell_in : Option (List ℕ) → List ℕ
+farewell_in None = []
+farewell_in (Some farewell) = farewell
+
+abbrev pub all_sent : Conversation → List ℕ
+all_sent c = c.sent ++ farewell_in c.parted
+
+-- What a client was heard of was read from its own stream, and all that was sent to it was written there, and nothing else.
+pub record HasOwnStream (c : ClientState) : Type 0 where
+  -- what was read after its session
+  pub discarded : List ℕ
+  pub live : c.now.over ≡ false → discarded ≡ []
+  pub read : Consumes c.began.remaining c.wire.remaining (c.now.received ++ discarded)
+  pub wrote : Appends c.began.contents c.wire.contents (all_sent c.now)
+
+-- Since then the client was heard, and no byte of an answer was sent to it.
 pub record IsSince (old new : Conversation) : Type 0 where
   pub sent_is : new.sent ≡ old.sent
   pub received : List ℕ
@@ -61,13 +89,14 @@ pub record IsSince (old new : Conversation) : Type 0 where
   pub exchanges : List Exchange
   pub exchanges_are : new.exchanges ≡ old.exchanges ++ exchanges
   pub text : List ℕ
-  pub withheld_is : new.withheld ≡ old.withheld ++ text
+  pub withheld_is : new.parted ≡ None → new.withheld ≡ old.withheld ++ text
 
--- Its bytes spell its commands and its answers, now and when bytes were last sent to it.
+-- Its bytes spell its commands and its answers, now and when bytes were last sent to it. They are those of its own stream.
 pub record IsClient (follows : Conversation → Type 0) (c : ClientState) : Type 0 where
   pub now : follows c.now
   pub released : follows c.released
   pub since : IsSince c.released c.now
+  pub own : HasOwnStream c
 
 -- the commands of these clients, one client after another
 abbrev pub exchanges_by : List ClientState → List Exchange
@@ -96,33 +125,70 @@ pub record AreServed (follows : ℕ → Conversation → Type 0) (history : List
   pub part : part_of number history ≡ entries_of number (exchanges_by clients)
   pub durable : AreDurable history covered number [] clients
 
--- A client hears a piece while its session goes on; else nothing changes.
-abbrev pub HearsBy : {D : Type 0} → (Conversation → Type 0) → ℕ → List ℕ → StoreState D → SlotState → StoreState D → SlotState → ClientState → Bool → Type 0
-HearsBy follows number piece store old store_new new c true = (new ≡ old) × (store_new ≡ store)
-HearsBy follows number piece store old store_new new c false =
-    (t : Conversation) × (new ≡ with_client old (record { now = t; released = c.released })) × Hears number piece store c.now store_new t × follows t
+-- ---- what happens to a client
 
-abbrev pub HearsAt : {D : Type 0} → (Conversation → Type 0) → ℕ → List ℕ → StoreState D → SlotState → StoreState D → SlotState → Option ClientState → Type 0
-HearsAt follows number piece store old store_new new None = (new ≡ old) × (store_new ≡ store)
-HearsAt follows number piece store old store_new new (Some c) = HearsBy follows number piece store old store_new new c c.now.over
+-- Its session goes on. A piece that its stream gave is heard.
+pub record ClientHears {D : Type 0} (follows : Conversation → Type 0) (number : ℕ) (piece : List ℕ) (store store_new : StoreState D) (old new : ClientState) : Type 0 where
+  pub live : old.now.over ≡ false
+  pub now : Conversation
+  pub wire : Wire
+  pub read : Consumes old.wire.remaining wire.remaining piece
+  pub kept : wire.contents ≡ old.wire.contents
+  pub is : new ≡ record old { now = now; wire = wire }
+  pub hears : Hears number piece store old.now store_new now
+  pub follows_is : follows now
 
--- the client that has the slot hears a piece
+-- The first n of the bytes that are withheld from it were written to its stream.
+pub record ClientSends (follows : Conversation → Type 0) (n : ℕ) (old new : ClientState) : Type 0 where
+  pub unparted : old.now.parted ≡ None
+  pub within : n ≤ length old.now.withheld
+  pub wire : Wire
+  pub wrote : Appends old.wire.contents wire.contents (take n old.now.withheld)
+  pub kept : wire.remaining ≡ old.wire.remaining
+  pub is : new ≡ record old { now = sent_of old.now n; released = sent_of old.now n; wire = wire }
+  pub follows_is : follows (sent_of old.now n)
+
+-- Some bytes were withheld from it, and the service parts with it: the farewell was written to its stream.
+pub record ClientParts (follows : Conversation → Type 0) (farewell : List ℕ) (old new : ClientState) : Type 0 where
+  pub unparted : old.now.parted ≡ None
+  pub some : old.now.withheld ≢ []
+  pub wire : Wire
+  pub wrote : Appends old.wire.contents wire.contents farewell
+  pub kept : wire.remaining ≡ old.wire.remaining
+  pub is : new ≡ record old { now = parted_of old.now farewell; wire = wire }
+  pub follows_is : follows (parted_of old.now farewell)
+
+-- Its session is over. What its stream gave is not heard.
+pub record ClientDiscards (old new : ClientState) : Type 0 where
+  pub over : old.now.over ≡ true
+  pub piece : List ℕ
+  pub wire : Wire
+  pub read : Consumes old.wire.remaining wire.remaining piece
+  pub kept : wire.contents ≡ old.wire.contents
+  pub is : new ≡ record old { wire = wire }
+
+-- ---- and to a slot
+
+-- the client that has the slot changes so
+abbrev pub SlotChanges : (ClientState → ClientState → Type 0) → SlotState → SlotState → Type 0
+SlotChanges changes old new =
+    (c : ClientState) × (d : ClientState) × (old.client ≡ Some c) × (new ≡ with_client old d) × changes c d
+
 abbrev pub SlotHears : {D : Type 0} → (Conversation → Type 0) → ℕ → List ℕ → StoreState D → StoreState D → SlotState → SlotState → Type 0
-SlotHears follows number piece store store_new old new = HearsAt follows number piece store old store_new new old.client
+SlotHears follows number piece store store_new old new = SlotChanges (ClientHears follows number piece store store_new) old new
 
-abbrev pub SlotJoins : SlotState → SlotState → Type 0
-SlotJoins old new = (old.client ≡ None) × (new ≡ with_client old new_client)
+abbrev pub SlotSends : (Conversation → Type 0) → ℕ → SlotState → SlotState → Type 0
+SlotSends follows n old new = SlotChanges (ClientSends follows n) old new
+
+abbrev pub SlotParts : (Conversation → Type 0) → List ℕ → SlotState → SlotState → Type 0
+SlotParts follows farewell old new = SlotChanges (ClientParts follows farewell) old new
+
+abbrev pub SlotDiscards : SlotState → SlotState → Type 0
+SlotDiscards old new = SlotChanges ClientDiscards old new
+
+-- a client with this stream takes the slot
+abbrev pub SlotJoins : Wire → SlotState → SlotState → Type 0
+SlotJoins wire old new = (old.client ≡ None) × (new ≡ with_client old (new_client wire))
 
 abbrev pub SlotLeaves : SlotState → SlotState → Type 0
 SlotLeaves old new = new ≡ without_client old
-
--- The first n of the bytes that are withheld from the client that has the slot were sent.
-abbrev pub SlotSends : (Conversation → Type 0) → ℕ → SlotState → SlotState → Type 0
-SlotSends follows n old new =
-    (c : ClientState) × (old.client ≡ Some c) × (n ≤ length c.now.withheld) × (new ≡ with_client old (after_sending c n)) × follows (sent_of c.now n)
-
--- They were written, and are sent; or no client has the slot, and nothing was written.
-abbrev pub SlotWrites : (Conversation → Type 0) → ℕ → Option (List ℕ) → Option (List ℕ) → SlotState → SlotState → Type 0
-SlotWrites follows n out out_new old new =
-    ((old.client ≡ None) × (new ≡ old) × (n ≡ 0) × (out_new ≡ out))
-    ⊎ ((sends : SlotSends follows n old new) × Appends out out_new (take n sends.0.now.withheld))

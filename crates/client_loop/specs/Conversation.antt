@@ -1,11 +1,13 @@
 -- What one client sent, and how it was answered.
-use Rattle.std.specs.Prelude.{◌≡◌, ◌⊎◌, ℕ, ◌+◌, ◌≤◌, ◌<◌, Bool, true, false, List, [], ◌∷◌, ◌++◌, length, Some, Ok, Err, ⊤}
+use Rattle.std.specs.Prelude.{◌≡◌, ◌≢◌, ◌⊎◌, ℕ, ◌+◌, ◌≤◌, ◌<◌, Bool, true, false, List, [], ◌∷◌, ◌++◌, length, take, Option, Some, None, Ok, Err, ⊤}
 use Rattle.act_sessions.specs.Exchange.{Exchange}
 use Rattle.act_sessions.specs.Rules.{Rules, Turn, Answered, Refused, Reads, IsEnded, IsOpen, exchanges_of, texts, turn_text}
 use Rattle.act_sessions.specs.Session.{ArePassed}
+use Rattle.act_store.specs.Plain.{failed_earlier}
 use Rattle.definitions.specs.Limits.{max_withheld}
 
--- The bytes that were received from a client, its commands with their answers, the bytes that were sent to it, and those that are withheld.
+-- The bytes that were received from a client, its commands with their answers, the bytes of answers that were sent to it, and those that are
+-- withheld.
 pub record Conversation : Type 0 where
   pub received : List ℕ
   -- how many requests were answered, while the session goes on
@@ -17,6 +19,8 @@ pub record Conversation : Type 0 where
   pub more : Bool
   -- whether the session is over
   pub over : Bool
+  -- once the service has parted with the client after a device fault: what was sent to it as a farewell, in place of what was withheld
+  pub parted : Option (List ℕ)
 
 -- all bytes of its answers
 abbrev pub answer_bytes : Conversation → List ℕ
@@ -24,7 +28,7 @@ answer_bytes c = c.sent ++ c.withheld
 
 -- a client that has just come
 abbrev pub no_conversation : Conversation
-no_conversation = record { received = []; requests = 0; exchanges = []; sent = []; withheld = []; more = false; over = false }
+no_conversation = record { received = []; requests = 0; exchanges = []; sent = []; withheld = []; more = false; over = false; parted = None }
 
 -- the last bytes of a session that ran out of memory outside a command
 abbrev pub IsLastText : {F : Type 0} → Rules F → List ℕ → Type 0
@@ -64,6 +68,32 @@ abbrev pub AreAnswers : {F : Type 0} → Rules F → Bool → List (Turn F) → 
 AreAnswers p false turns bytes = IsOpen p 0 turns × (bytes ≡ texts p 0 turns)
 AreAnswers p true turns bytes = (IsEnded p 0 turns × (bytes ≡ texts p 0 turns)) ⊎ IsCutShort p turns bytes
 
+-- the refusal after a device fault, as the last answer of a session
+abbrev pub farewell_text : {F : Type 0} → Rules F → List ℕ
+farewell_text p = p.answer_text true (Err failed_earlier)
+
+-- These bytes are the whole answers to some first turns.
+pub record AreWhole {F : Type 0} (p : Rules F) (turns : List (Turn F)) (sent : List ℕ) : Type 0 where
+  pub answered : List (Turn F)
+  pub others : List (Turn F)
+  pub turns_are : turns ≡ answered ++ others
+  pub unended : IsOpen p 0 answered
+  pub sent_is : sent ≡ texts p 0 answered
+
+-- The service parted with the client: some answers were dropped. The farewell is the refusal, or a prefix of it, and stands only after
+-- whole answers.
+pub record IsParting {F : Type 0} (p : Rules F) (turns : List (Turn F)) (sent farewell : List ℕ) : Type 0 where
+  pub was_over : Bool
+  pub dropped : List ℕ
+  pub some : dropped ≢ []
+  pub answers_are : AreAnswers p was_over turns (sent ++ dropped)
+  pub refuses : (farewell ≡ []) ⊎ (AreWhole p turns sent × (n : ℕ) × (farewell ≡ take n (farewell_text p)))
+
+-- What was sent and what is withheld are, together, the answers to these turns; or the service has parted with the client.
+abbrev pub AnswersTurns : {F : Type 0} → Rules F → Conversation → List (Turn F) → Option (List ℕ) → Type 0
+AnswersTurns p c turns None = AreAnswers p c.over turns (answer_bytes c)
+AnswersTurns p c turns (Some farewell) = (c.over ≡ true) × (c.withheld ≡ []) × IsParting p turns c.sent farewell
+
 -- The bytes that were received are the requests of some turns and a rest. The commands are those of the turns, in order, each once, and the
 -- bytes of the answers are those that the protocol gives to the turns.
 pub record Follows {F : Type 0} (p : Rules F) (c : Conversation) : Type 0 where
@@ -72,14 +102,15 @@ pub record Follows {F : Type 0} (p : Rules F) (c : Conversation) : Type 0 where
   pub reads : Reads p c.received turns rest
   pub requests_are : c.over ≡ false → c.requests ≡ length turns
   pub exchanges_are : c.exchanges ≡ exchanges_of turns
-  pub answers_are : AreAnswers p c.over turns (answer_bytes c)
+  pub answers_are : AnswersTurns p c turns c.parted
   -- no whole request is left without an answer, and no more bytes wait than the protocol allows
   pub waits : c.over ≡ false → c.more ≡ false → ((c.received ≡ []) ⊎ p.waits rest) × (length rest ≤ p.limit)
   -- a client that takes no answers has few bytes withheld
   pub few_withheld : AreFew p c.over c.withheld
 
--- A session in memory, with the bytes after its turns.
-pub record IsInMemory {F : Type 0} (p : Rules F) (c : Conversation) (held : List ℕ) : Type 0 where
+-- A session in memory, with the bytes after its turns, and whether an answer may have been sent in part.
+pub record IsInMemory {F : Type 0} (p : Rules F) (c : Conversation) (held : List ℕ) (cut : Bool) : Type 0 where
   pub follows : Follows p c
   pub held_is : c.over ≡ false → held ≡ follows.rest
   pub room : c.over ≡ false → c.requests < p.most
+  pub whole : cut ≡ false → c.withheld ≢ [] → AreWhole p follows.turns c.sent

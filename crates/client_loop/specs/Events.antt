@@ -1,15 +1,17 @@
 -- What may happen to a service, in any order.
-use Rattle.std.specs.Prelude.{◌≡◌, ◌≢◌, ◌⊎◌, ◌↔◌, ℕ, ◌≤◌, List, [], ◌∷◌, ◌++◌, length, ⊤, true}
+use Rattle.std.specs.Prelude.{◌≡◌, ◌⊎◌, ◌↔◌, ℕ, ◌<◌, ◌≤◌, List, [], ◌∷◌, ◌++◌, length, ⊤, true}
 use Rattle.definitions.specs.Disk.{EachSince}
+use Rattle.act_store.specs.Plain.{broken}
 use Rattle.act_store.specs.StoreState.{RecoversToSome}
 use Rattle.act_store.specs.declared.entry.Entry.{Entry}
 use Rattle.act_store.specs.declared.step.Step.{Step}
 use Rattle.act_store.specs.declared.step.Step.TheVariants as requested
 use Rattle.client_loop.specs.Conversation.{Conversation}
-use Rattle.client_loop.specs.Entering.{part_of}
-use Rattle.client_loop.specs.Service.{ServiceHears, ServiceJoins, ServiceLeaves, ServiceSends, ServiceState, covered_of, history_of, pending_of}
+use Rattle.client_loop.specs.Clients.{Wire}
+use Rattle.client_loop.specs.Service.{ServiceDiscards, ServiceHears, ServiceJoins, ServiceLeaves, ServiceParts, ServiceSends, ServiceState}
+use Rattle.client_loop.specs.Service.{covered_of, history_of}
 use Rattle.client_loop.specs.declared.event.Event.{Event}
-use Rattle.client_loop.specs.declared.event.Event.TheVariants.{Begins, Commits, Finishes, Hears, Joins, Leaves, Sends, Slices, TurnsOver}
+use Rattle.client_loop.specs.declared.event.Event.TheVariants.{Begins, Commits, Discards, Finishes, GoesOn, Hears, Joins, Leaves, Parts, Sends, Slices, TurnsOver}
 
 -- a step of the store that enters no command
 abbrev pub EntersNone : Step → Type 0
@@ -28,12 +30,20 @@ pub record IsQuiet {D : Type 0} (old new : ServiceState D) : Type 0 where
   -- a store that has failed changes no more
   pub failed : old.store.failed ≡ true → new ≡ old
 
--- One event; or it was not possible, and nothing changed.
+-- The device failed in a commit, of which an entry was left to cover.
+pub record IsBroken {D : Type 0} (old new : ServiceState D) : Type 0 where
+  pub pending : old.store.covered < length old.store.history
+  pub is : new ≡ record old { store = broken old.store new.store.disk }
+
+-- One event; or it was not possible, and nothing changed. What comes in a piece, how much a stream takes and which stream joins is left open.
 abbrev pub Happens : {D : Type 0} → (ℕ → Conversation → Type 0) → ServiceState D → Event → ServiceState D → Type 0
-Happens follows old (Joins index) new = (new ≡ old) ⊎ ServiceJoins index old new
-Happens follows old (Hears index bytes) new = (new ≡ old) ⊎ ServiceHears follows index bytes.items old new
-Happens follows old (Sends index n) new = (new ≡ old) ⊎ ServiceSends follows index n old new
+Happens follows old (Joins index) new = (new ≡ old) ⊎ ((wire : Wire) × ServiceJoins index wire old new)
+Happens follows old (Hears index) new = (new ≡ old) ⊎ ((piece : List ℕ) × ServiceHears follows index piece old new)
+Happens follows old (GoesOn index) new = (new ≡ old) ⊎ ServiceHears follows index [] old new
+Happens follows old (Sends index) new = (new ≡ old) ⊎ ((n : ℕ) × ServiceSends follows index n old new)
+Happens follows old (Discards index) new = (new ≡ old) ⊎ ServiceDiscards index old new
 Happens follows old (Leaves index) new = (new ≡ old) ⊎ ServiceLeaves index old new
+Happens follows old (Parts index) new = (new ≡ old) ⊎ ((farewell : List ℕ) × ServiceParts follows index farewell old new)
 Happens follows old Commits new = IsQuiet old new
 Happens follows old TurnsOver new = IsQuiet old new
 Happens follows old Begins new = IsQuiet old new
@@ -61,8 +71,3 @@ abbrev pub Plays : {D : Type 0} → (ServiceState D → ServiceState D → Type 
 Plays during follows old [] new = new ≡ old
 Plays {D} during follows old (event ∷ events) new =
     (mid : ServiceState D) × Happens follows old event mid × during old mid × Plays during follows mid events new
-
--- The device has failed, and some entry under this number is not covered.
-pub record IsStuck {D : Type 0} (index : ℕ) (s : ServiceState D) : Type 0 where
-  pub failed : s.store.failed ≡ true
-  pub pending : part_of index (pending_of s) ≢ []

@@ -10,6 +10,7 @@ use Rattle.definitions.specs.Limits.{max_taken, max_withheld}
 pub record Hears {D : Type 0} (number : ℕ) (piece : List ℕ) (store : StoreState D) (old : Conversation) (store_new : StoreState D) (new : Conversation) : Type 0 where
   pub received_is : new.received ≡ old.received ++ piece
   pub sent_is : new.sent ≡ old.sent
+  pub parted_is : new.parted ≡ old.parted
   pub exchanges : List Exchange
   pub few : length exchanges ≤ max_taken
   -- It says that it has more only after as many requests as are taken at a time, or where many bytes are withheld.

@@ -1,5 +1,5 @@
 -- A service of many clients over one store, and what every service guarantees.
-use Rattle.std.specs.Prelude.{◌≡◌, ℕ, ◌+◌, ◌≤◌, ◌<◌, List, [], ◌++◌, length, drop, Option}
+use Rattle.std.specs.Prelude.{◌≡◌, ◌≢◌, ℕ, ◌+◌, ◌≤◌, ◌<◌, List, [], ◌++◌, length, drop, true}
 use Rattle.std.specs.List.{AllByRecursion}
 use Rattle.table_model.specs.Sound.{IsSound}
 use Rattle.table_model.specs.TableState.{TableState}
@@ -8,7 +8,7 @@ use Rattle.act_store.specs.GroupsOfHistory.{KeepsGroups}
 use Rattle.act_store.specs.Reopened.{Life}
 use Rattle.act_store.specs.StoreState.{RecoversToSome, StoreState}
 use Rattle.act_store.specs.declared.entry.Entry.{Entry}
-use Rattle.client_loop.specs.Clients.{SlotHears, SlotJoins, SlotLeaves, SlotSends, SlotWrites}
+use Rattle.client_loop.specs.Clients.{SlotDiscards, SlotHears, SlotJoins, SlotLeaves, SlotParts, SlotSends, SlotState, Wire}
 use Rattle.client_loop.specs.Conversation.{Conversation}
 use Rattle.client_loop.specs.Entering.{part_of}
 use Rattle.client_loop.specs.Slots.{AllServed, ChangesSlot, SlotsState}
@@ -58,6 +58,11 @@ pub record IsPromised {D : Type 0} (follows : ℕ → Conversation → Type 0) (
   pub others : AllByRecursion (λ (e : Entry). e.seat < length s.slots.all) (history_of s)
   pub recovers : honest s.store.disk → (image : List ℕ) → images s.store.disk image → RecoversToSome s.origin (history_of s) (covered_of s) image
 
+-- The device has failed, and some entry under this number is not covered.
+pub record IsStuck {D : Type 0} (index : ℕ) (s : ServiceState D) : Type 0 where
+  pub failed : s.store.failed ≡ true
+  pub pending : part_of index (pending_of s) ≢ []
+
 -- ---- what happens to the client of a slot
 
 pub record ServiceHears {D : Type 0} (follows : ℕ → Conversation → Type 0) (index : ℕ) (piece : List ℕ) (old new : ServiceState D) : Type 0 where
@@ -70,16 +75,23 @@ pub record ServiceSends {D : Type 0} (follows : ℕ → Conversation → Type 0)
   pub sends : ChangesSlot (SlotSends (follows index) n) index old.slots new.slots
   pub is : new ≡ record old { slots = new.slots }
 
--- The same of bytes that were written.
-pub record ServiceWrites {D : Type 0} (follows : ℕ → Conversation → Type 0) (index n : ℕ) (out out_new : Option (List ℕ)) (old new : ServiceState D) : Type 0 where
-  pub covered : part_of index (pending_of old) ≡ []
-  pub writes : ChangesSlot (SlotWrites (follows index) n out out_new) index old.slots new.slots
+-- The service parted with a client: the device has failed, and an entry under its number is not covered. These bytes were sent in place of
+-- its answers.
+pub record ServiceParts {D : Type 0} (follows : ℕ → Conversation → Type 0) (index : ℕ) (farewell : List ℕ) (old new : ServiceState D) : Type 0 where
+  pub stuck : IsStuck index old
+  pub parts : ChangesSlot (SlotParts (follows index) farewell) index old.slots new.slots
   pub is : new ≡ record old { slots = new.slots }
 
-pub record ServiceJoins {D : Type 0} (index : ℕ) (old new : ServiceState D) : Type 0 where
-  pub joins : ChangesSlot SlotJoins index old.slots new.slots
+-- only slots change, and one of them so
+pub record ServiceChanges {D : Type 0} (changes : SlotState → SlotState → Type 0) (index : ℕ) (old new : ServiceState D) : Type 0 where
+  pub changed : ChangesSlot changes index old.slots new.slots
   pub is : new ≡ record old { slots = new.slots }
 
-pub record ServiceLeaves {D : Type 0} (index : ℕ) (old new : ServiceState D) : Type 0 where
-  pub leaves : ChangesSlot SlotLeaves index old.slots new.slots
-  pub is : new ≡ record old { slots = new.slots }
+abbrev pub ServiceDiscards : {D : Type 0} → ℕ → ServiceState D → ServiceState D → Type 0
+ServiceDiscards index old new = ServiceChanges SlotDiscards index old new
+
+abbrev pub ServiceJoins : {D : Type 0} → ℕ → Wire → ServiceState D → ServiceState D → Type 0
+ServiceJoins index wire old new = ServiceChanges (SlotJoins wire) index old new
+
+abbrev pub ServiceLeaves : {D : Type 0} → ℕ → ServiceState D → ServiceState D → Type 0
+ServiceLeaves index old new = ServiceChanges SlotLeaves index old new

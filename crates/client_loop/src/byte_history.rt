@@ -24,6 +24,15 @@ impl ByteHistory {
         ByteHistory { pieces: Log::new() }
     }
 
+    /// The first `count` of these bytes.
+    pub(crate) fn of(bytes: &Vec<u8>, count: usize) -> ByteHistory
+        ensures { result ≡ take count bytes.now.items }
+    {
+        ByteHistory {
+            pieces: Log::new().and(bytes, &count),
+        }
+    }
+
     /// Appends the first `count` of these bytes.
     pub(crate) fn add(&mut self, bytes: &Vec<u8>, count: usize)
         ensures { self.new ≡ self.old ++ take count bytes.now.items }

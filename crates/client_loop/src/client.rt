@@ -1,46 +1,52 @@
-ghost use Rattle.std.specs.Prelude.{◌≡◌, ◌≤◌, length, take, true, false, vec_len};
-ghost use Rattle.std.specs.Io.KnownBytes.{Appends};
-ghost use Rattle.client_loop.specs.Clients.{after_sending, new_client, sent_of, status_of};
+ghost use Rattle.std.specs.Prelude.{◌≡◌, ◌≢◌, ◌≤◌, ℕ, List, [], IfNone, IfSome, None, is_some, length, take, true, false, vec_len};
+ghost use Rattle.client_loop.specs.Clients.{ClientDiscards, ClientHears, ClientParts, ClientSends, new_client, status_of, wire_of};
 ghost use Rattle.client_loop.specs.Conversation.{Follows};
-ghost use Rattle.client_loop.specs.Hearing.{Hears};
 
 use crate::session::Session;
 use crate::status::ClientStatus;
+use crate::stream::Stream;
 use act_disk::Disk;
 use act_sessions::Protocol;
 use act_store::Store;
-use byte_streams::write_prefix;
 use std::alloc::Global;
-use std::io::Write;
 use std::marker::Model;
 use std::snapshot::Snapshot;
 
-/// A client with its session, and, for contracts only, the session as it was when bytes were last sent.
+/// A client with its session and its own stream. For contracts only it has the session as it was when bytes were last sent, and the stream as
+/// it was when the client came.
 #[derive(Drop)]
-pub(crate) struct Client<P: Protocol> {
+pub(crate) struct Client<P: Protocol, S: Stream> {
     session: Session<P>,
     released: Snapshot<Session<P>>,
+    stream: S,
+    began: Snapshot<S>,
 }
 
-impl<P: Protocol> Model for Client<P> {
+impl<P: Protocol, S: Stream> Model for Client<P, S> {
     ghost use Rattle.std.specs.Prelude.{⊤};
-    ghost use Rattle.client_loop.specs.Clients.{ClientState};
+    ghost use Rattle.client_loop.specs.Clients.{ClientState, wire_of};
 
     ghost Value = { ClientState };
 
-    ghost view = { λ c. record { now = c.session; released = c.released.value } };
+    ghost view = { λ c. record { now = c.session; released = c.released.value; wire = wire_of S.Stream.remaining S.Stream.contents c.stream; began = wire_of S.Stream.remaining S.Stream.contents c.began.value } };
 
     ghost invariant = { λ c. ⊤ };
 }
 
-impl<P: Protocol> Client<P> {
-    /// A client that has just come.
-    pub(crate) fn new(alloc: Global) -> Client<P>
-        ensures { result ≡ new_client }
+impl<P: Protocol, S: Stream> Client<P, S> {
+    /// A client that has just come, with its stream.
+    pub(crate) fn new(alloc: Global, stream: S) -> Client<P, S>
+        ensures { result ≡ new_client (wire_of S.remaining S.contents stream) }
     {
         let session = Session::new(alloc);
         let released = Snapshot::of(&session);
-        Client { session, released }
+        let began = Snapshot::of(&stream);
+        Client {
+            session,
+            released,
+            stream,
+            began,
+        }
     }
 
     pub(crate) fn status(&self) -> ClientStatus
@@ -53,43 +59,73 @@ impl<P: Protocol> Client<P> {
         }
     }
 
-    /// Hears the first `n` of these bytes, as `Session::hear` does.
-    pub(crate) fn hear<D: Disk>(
+    /// Whether the service has parted with it.
+    pub(crate) fn is_parted(&self) -> bool
+        ensures { result ≡ is_some self.now.now.parted }
+    {
+        self.session.is_parted()
+    }
+
+    /// Its stream.
+    pub(crate) fn stream(&self) -> &S {
+        &self.stream
+    }
+
+    /// Reads once from its stream, and hears what came.
+    pub(crate) fn hear_from<D: Disk>(
         &mut self,
         alloc: Global,
         store: &mut Store<D>,
         number: u64,
-        bytes: &Vec<u8>,
-        n: usize,
-    )
-        requires { n ≤ vec_len bytes.now }
-        ensures over { self.old.now.over ≡ true → (self.new ≡ self.old) × (store.new ≡ store.old) }
-        ensures follows { Follows P.rules self.new.now }
-        ensures released { self.new.released ≡ self.old.released }
-        ensures heard { self.old.now.over ≡ false → Hears number (take n bytes.now.items) store.old self.old.now store.new self.new.now }
+        buffer: &mut Vec<u8>,
+    ) -> Option<usize>
+        requires { self.old.now.over ≡ false }
+        ensures bound { IfSome result (λ n. n ≤ vec_len buffer.new) }
+        ensures heard { IfSome result (λ n. ClientHears (Follows P.rules) number (take n buffer.new.items) store.old store.new self.old self.new) }
+        ensures none { IfNone result ((self.new ≡ self.old) × (store.new ≡ store.old)) }
     {
-        self.session.hear(alloc, store, number, bytes, n);
+        let Some(count) = self.stream.read(buffer) else {
+            return None;
+        };
+        self.session.hear(alloc, store, number, buffer, count);
+        Some(count)
     }
 
-    /// Notes that the first `n` of the withheld bytes were sent.
-    pub(crate) fn send(&mut self, n: usize)
-        requires { n ≤ length self.old.now.withheld }
-        ensures follows { Follows P.rules (sent_of self.old.now n) }
-        ensures sent { self.new ≡ after_sending self.old n }
+    /// Continues with what it has sent before.
+    pub(crate) fn go_on<D: Disk>(&mut self, alloc: Global, store: &mut Store<D>, number: u64)
+        requires { self.old.now.over ≡ false }
+        ensures { ClientHears (Follows P.rules) number [] store.old store.new self.old self.new }
     {
-        self.session.send(n);
+        let none = Vec::new(alloc);
+        self.session.hear(alloc, store, number, &none, 0);
+    }
+
+    /// Writes the withheld bytes to its stream, as many as it takes, and returns how many these are.
+    pub(crate) fn send_to(&mut self) -> usize
+        requires { self.old.now.parted ≡ None }
+        ensures { ClientSends (Follows P.rules) result self.old self.new }
+    {
+        let count = self.stream.write(self.session.withheld());
+        self.session.send(count);
         self.released = Snapshot::of(&self.session);
+        count
     }
 
-    /// Writes the withheld bytes, and notes how many of them were sent.
-    pub(crate) fn send_to<W: Write>(&mut self, writer: &mut W) -> usize
-        ensures bound { result ≤ length self.old.now.withheld }
-        ensures wrote { Appends (W.contents writer.old) (W.contents writer.new) (take result self.old.now.withheld) }
-        ensures follows { Follows P.rules (sent_of self.old.now result) }
-        ensures sent { self.new ≡ after_sending self.old result }
+    /// Parts with it, as `Session::part` does.
+    pub(crate) fn part(&mut self, alloc: Global)
+        requires { self.old.now.withheld ≢ [] }
+        ensures { (farewell : List ℕ) × ClientParts (Follows P.rules) farewell self.old self.new }
     {
-        let count = write_prefix(writer, self.session.withheld());
-        self.send(count);
-        count
+        self.session.part(alloc, &mut self.stream);
+    }
+
+    /// Reads once from its stream, and hears nothing of what came.
+    pub(crate) fn discard(&mut self, buffer: &mut Vec<u8>) -> Option<usize>
+        requires { self.old.now.over ≡ true }
+        ensures bound { IfSome result (λ n. n ≤ vec_len buffer.new) }
+        ensures discarded { IfSome result (λ n. ClientDiscards self.old self.new) }
+        ensures none { IfNone result (self.new ≡ self.old) }
+    {
+        self.stream.read(buffer)
     }
 }

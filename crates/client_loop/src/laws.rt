@@ -8,8 +8,8 @@ ghost use Rattle.act_store.specs.Reopened.{EndsAt};
 ghost use Rattle.act_store.specs.declared.entry.Entry.{Entry};
 ghost use Rattle.client_loop.specs.Clients.{ClientState, IsDurable};
 ghost use Rattle.client_loop.specs.Entering.{entries_of, part_of};
-ghost use Rattle.client_loop.specs.Events.{Happens, IsStuck};
-ghost use Rattle.client_loop.specs.Service.{IsPromised, ServiceState, history_of, life_of};
+ghost use Rattle.client_loop.specs.Events.{Happens};
+ghost use Rattle.client_loop.specs.Service.{IsPromised, IsStuck, ServiceState, history_of, life_of};
 ghost use Rattle.client_loop.specs.Slots.{by_port};
 ghost use Rattle.client_loop.specs.declared.event.Event.{Event};
 ghost use Rattle.client_loop.specs.declared.event.Event.TheVariants as event;
@@ -41,15 +41,15 @@ pub fn a_crash_ends_one_life<D: Disk, P: Protocol, Q: Protocol>()
 {}
 
 /// Once the device has failed, nothing is entered. While an entry under a slot's number is not covered, that stays so whatever happens, and
-/// no byte is sent to the clients of the slot any more.
+/// no byte of an answer is sent to the clients of the slot any more.
 /// Promise (A service in one thread): Once the device has failed nothing is entered. To a client under whose number an entry is not covered no
-///   byte is sent any more
+///   byte of an answer is sent any more, but only a refusal 52 as the service parts with it
 /// By: `client_loop::laws::a_fault_silences`, `enters_nothing`, `stays`, `silent` (`IsStuck`)
 pub fn a_fault_silences<D: Disk, P: Protocol, Q: Protocol>()
     ensures enters_nothing { (hooks : ℕ) (old new : ServiceState D) (next : Event) → old.store.failed ≡ true
         → Happens (by_port hooks P.rules Q.rules) old next new → (new.store.failed ≡ true) × (history_of new ≡ history_of old) }
     ensures stays { (hooks index : ℕ) (old new : ServiceState D) (next : Event) → IsStuck index old
         → Happens (by_port hooks P.rules Q.rules) old next new → IsStuck index new }
-    ensures silent { (hooks index n : ℕ) (old new : ServiceState D) → IsStuck index old
-        → Happens (by_port hooks P.rules Q.rules) old (event.Sends index n) new → new ≡ old }
+    ensures silent { (hooks index : ℕ) (old new : ServiceState D) → IsStuck index old
+        → Happens (by_port hooks P.rules Q.rules) old (event.Sends index) new → new ≡ old }
 {}

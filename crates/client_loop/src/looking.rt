@@ -5,11 +5,12 @@ ghost use Rattle.client_loop.specs.Looking.{IsSeen};
 ghost use Rattle.client_loop.specs.Service.{covered_of, history_of};
 
 use crate::service::Service;
+use crate::stream::Stream;
 use act_disk::Disk;
 use act_sessions::Protocol;
 use run_table::Table;
 
-impl<D: Disk, P: Protocol, Q: Protocol> Service<D, P, Q> {
+impl<D: Disk, P: Protocol, Q: Protocol, S: Stream> Service<D, P, Q, S> {
     /// The table after all entries, if they are all covered: no crash takes back what it shows. Nothing is entered, and no device call is
     /// made.
     /// Promise (Views of a service): What is shown is the table after all entries of the history, which are all covered: at that moment each

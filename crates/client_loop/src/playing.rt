@@ -7,16 +7,19 @@ ghost use Rattle.client_loop.specs.Slots.{by_port};
 
 use crate::event::Event;
 use crate::service::Service;
+use crate::stream::Stream;
 use act_disk::Disk;
 use act_sessions::Protocol;
 use act_store::Step;
 use std::alloc::Global;
 
 /// One event. An event that is not possible changes nothing.
-fn happen<D: Disk, P: Protocol, Q: Protocol>(
+fn happen<D: Disk, P: Protocol, Q: Protocol, S: Stream>(
     alloc: Global,
-    service: &mut Service<D, P, Q>,
+    service: &mut Service<D, P, Q, S>,
     event: &Event,
+    streams: &mut Vec<S>,
+    buffer: &mut Vec<u8>,
 )
     ensures happens { Happens (by_port service.old.slots.hooks P.rules Q.rules) service.old event.now service.new }
     ensures survives { Survives D.honest D.moment D.images_since service.old service.new }
@@ -24,24 +27,27 @@ fn happen<D: Disk, P: Protocol, Q: Protocol>(
     let _covered = service.is_covered();
     match event {
         Event::Joins(index) => {
-            if service.has_slot(*index) {
-                service.join(alloc, *index);
+            if let Some(stream) = streams.pop() {
+                service.join(alloc, *index, stream);
             }
         }
-        Event::Hears(index, bytes) => {
-            if service.has_slot(*index) {
-                service.hear(alloc, *index, bytes, bytes.len());
-            }
+        Event::Hears(index) => {
+            service.hear_from(alloc, *index, buffer);
         }
-        Event::Sends(index, n) => {
-            if service.has_slot(*index) {
-                service.send(*index, *n);
-            }
+        Event::GoesOn(index) => {
+            service.go_on(alloc, *index);
+        }
+        Event::Sends(index) => {
+            service.send_to(*index);
+        }
+        Event::Discards(index) => {
+            service.discard(*index, buffer);
         }
         Event::Leaves(index) => {
-            if service.has_slot(*index) {
-                service.leave(*index);
-            }
+            service.leave(*index);
+        }
+        Event::Parts(index) => {
+            service.part(alloc, *index);
         }
         Event::Commits => {
             let _ = service.commit();
@@ -61,7 +67,8 @@ fn happen<D: Disk, P: Protocol, Q: Protocol>(
     }
 }
 
-/// Any events in any order, whatever the device does.
+/// Any events in any order, whatever the device does and whatever the streams give and take. The next client gets the last of the streams; a
+/// read takes as many bytes as the buffer has.
 ///
 /// Whatever bytes come to any clients in whatever pieces and order, and whenever the machine crashes, the disk recovers to the state after
 /// some first entries of one history, with every command of which a client was sent a byte of the answer. Each client was sent the bytes
@@ -77,10 +84,12 @@ fn happen<D: Disk, P: Protocol, Q: Protocol>(
 /// Promise (A service in one thread): The entries under a slot's number are the commands of its clients, in order, each once, with the replies
 ///   of their steps, and there are no others
 /// By: `client_loop::play`, `promise`; `client_loop::Service::is_covered`, `promise` (`AreServed`, `Enters`)
-pub fn play<D: Disk, P: Protocol, Q: Protocol>(
+pub fn play<D: Disk, P: Protocol, Q: Protocol, S: Stream>(
     alloc: Global,
-    service: &mut Service<D, P, Q>,
+    service: &mut Service<D, P, Q, S>,
     events: &[Event],
+    streams: &mut Vec<S>,
+    buffer: &mut Vec<u8>,
 )
     ensures plays { Plays (Survives D.honest D.moment D.images_since) (by_port service.old.slots.hooks P.rules Q.rules) service.old events.now
         service.new }
@@ -91,7 +100,7 @@ pub fn play<D: Disk, P: Protocol, Q: Protocol>(
     ensures honest { D.honest service.new.store.disk ↔ D.honest service.old.store.disk }
 {
     for event in events {
-        happen(alloc, service, event);
+        happen(alloc, service, event, streams, buffer);
     }
     let _covered = service.is_covered();
 }

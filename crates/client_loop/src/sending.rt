@@ -1,19 +1,19 @@
 //! How a service sends answers.
 
-ghost use Rattle.std.specs.Prelude.{◌≡◌, ◌⊎◌, ◌<◌, ◌↔◌, [], IsTrue, drop, length, true, false};
+ghost use Rattle.std.specs.Prelude.{◌≡◌, ◌<◌, ◌↔◌, [], IfNone, IfSome, IsTrue, drop, length};
 ghost use Rattle.client_loop.specs.Entering.{IsUnder, part_of};
 ghost use Rattle.client_loop.specs.Events.{Survives};
-ghost use Rattle.client_loop.specs.Service.{ServiceSends, ServiceWrites, pending_of};
+ghost use Rattle.client_loop.specs.Service.{ServiceSends, pending_of};
 ghost use Rattle.client_loop.specs.Slots.{by_port};
 
 use crate::service::Service;
+use crate::stream::Stream;
 use act_disk::Disk;
 use act_sessions::Protocol;
 use act_store::Store;
-use std::io::Write;
 
 /// Whether no entry under a number is pending.
-fn none_pending<D: Disk>(store: &Store<D>, number: u64) -> bool
+pub(crate) fn none_pending<D: Disk>(store: &Store<D>, number: u64) -> bool
     ensures { IsTrue result ↔ (part_of number (drop store.now.covered store.now.history) ≡ []) }
 {
     for position in store.covered()..store.entries() {
@@ -36,7 +36,7 @@ fn is_under<D: Disk>(store: &Store<D>, position: u64, number: u64) -> bool
     }
 }
 
-impl<D: Disk, P: Protocol, Q: Protocol> Service<D, P, Q> {
+impl<D: Disk, P: Protocol, Q: Protocol, S: Stream> Service<D, P, Q, S> {
     /// Whether answers may be sent to the client of a slot: every entry under the slot's number is covered.
     pub fn may_send(&self, index: usize) -> bool
         ensures { IsTrue result ↔ (part_of index (pending_of self.now) ≡ []) }
@@ -44,38 +44,21 @@ impl<D: Disk, P: Protocol, Q: Protocol> Service<D, P, Q> {
         none_pending(&self.store, index as u64)
     }
 
-    /// Notes that the first `n` bytes that are withheld from the client of a slot were sent. Returns false if they may not be sent: an
-    /// entry under the slot's number is not covered, or fewer bytes are withheld.
+    /// Writes the bytes that are withheld from the client of a slot to its stream, as many as that takes, and returns how many these are.
+    /// Nothing is written, and nothing changes, while an entry under the slot's number is not covered, where there is no client, and once the
+    /// service has parted with it.
     /// Promise (A service in one thread): Bytes are sent to a client only while every entry under its number is covered: of these the withheld
-    ///   ones, in order, each once
-    /// By: `client_loop::Service::send`, `sent`, `same`; `client_loop::Service::send_to`, `wrote` (`ServiceSends`, `ServiceWrites`);
-    ///   `client_loop::Service::may_send`
-    pub fn send(&mut self, index: usize, n: usize) -> bool
-        requires { index < length self.old.slots.all }
-        ensures sent { result ≡ true → ServiceSends (by_port self.old.slots.hooks P.rules Q.rules) index n self.old self.new }
-        ensures same { result ≡ false → self.new ≡ self.old }
+    ///   ones, in order, each once, by its own stream
+    /// By: `client_loop::Service::send_to`, `sent`, `none` (`ServiceSends`, `ClientSends`); `client_loop::Service::may_send`
+    pub fn send_to(&mut self, index: usize) -> Option<usize>
+        ensures sent { IfSome result (λ n. ServiceSends (by_port self.old.slots.hooks P.rules Q.rules) index n self.old self.new) }
+        ensures none { IfNone result (self.new ≡ self.old) }
         ensures survives { Survives D.honest D.moment D.images_since self.old self.new }
     {
         let _covered = self.store.covered();
-        if !self.may_send(index) {
-            return false;
+        if !self.slots.has(index) || !self.may_send(index) {
+            return None;
         }
-        self.slots.send(index, n)
-    }
-
-    /// Writes the bytes that are withheld from the client of a slot, as many as the writer takes, and returns how many these are. Nothing is
-    /// written while an entry under the slot's number is not covered.
-    pub fn send_to<W: Write>(&mut self, index: usize, writer: &mut W) -> usize
-        requires { index < length self.old.slots.all }
-        ensures wrote { ((self.new ≡ self.old) × (result ≡ 0) × (W.contents writer.new ≡ W.contents writer.old))
-            ⊎ ServiceWrites (by_port self.old.slots.hooks P.rules Q.rules) index result (W.contents writer.old) (W.contents writer.new)
-            self.old self.new }
-        ensures survives { Survives D.honest D.moment D.images_since self.old self.new }
-    {
-        let _covered = self.store.covered();
-        if !self.may_send(index) {
-            return 0;
-        }
-        self.slots.send_to(index, writer)
+        self.slots.send_to(index)
     }
 }

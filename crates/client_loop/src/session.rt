@@ -1,6 +1,7 @@
-ghost use Rattle.std.specs.Prelude.{◌≡◌, ◌≤◌, ◌<◌, ◌++◌, ℕ, List, length, take, true, false, vec_len};
-ghost use Rattle.client_loop.specs.Clients.{sent_of};
-ghost use Rattle.client_loop.specs.Conversation.{Follows, IsLastText, no_conversation};
+ghost use Rattle.std.specs.Prelude.{◌≡◌, ◌≢◌, ◌⊎◌, ◌≤◌, ◌<◌, ◌++◌, ℕ, List, [], None, is_some, length, take, true, false, vec_len};
+ghost use Rattle.std.specs.Io.KnownBytes.{Appends};
+ghost use Rattle.client_loop.specs.Clients.{parted_of, sent_of};
+ghost use Rattle.client_loop.specs.Conversation.{Follows, IsLastText, farewell_text, no_conversation};
 ghost use Rattle.client_loop.specs.Hearing.{Hears};
 ghost use Rattle.definitions.specs.Limits.{max_taken};
 ghost use Rattle.client_loop.specs.inner.Turns.{TakesTurns};
@@ -8,12 +9,14 @@ ghost use Rattle.client_loop.specs.inner.Turns.{TakesTurns};
 use crate::byte_history::ByteHistory;
 use crate::exchange_history::ExchangeHistory;
 use crate::pause::Pause;
+use crate::stream::Stream;
 use crate::turns::take_turns;
 use act_disk::Disk;
 use act_sessions::{HeldBytes, Protocol, take_first_off};
 use act_store::Store;
 use std::alloc::Global;
 use std::marker::Model;
+use wf_value::{Code, Refusal};
 
 /// How many requests of a client are taken at a time. The next ones wait, so that other clients are heard between.
 pub const MAX_REQUESTS: u64 = 16;
@@ -26,9 +29,13 @@ pub(crate) struct Session<P: Protocol> {
     out: Vec<u8>,
     more: bool,
     over: bool,
+    /// Whether an answer may have been sent in part: more was withheld when bytes were last sent.
+    cut: bool,
     received: ByteHistory,
     exchanges: ExchangeHistory,
     sent: ByteHistory,
+    /// What was sent in place of answers when the service parted with the client, if it has.
+    farewell: Option<ByteHistory>,
 }
 
 impl<P: Protocol> Model for Session<P> {
@@ -36,11 +43,11 @@ impl<P: Protocol> Model for Session<P> {
 
     ghost Value = { Conversation };
 
-    ghost view = { λ s. record { received = s.received; requests = s.count; exchanges = s.exchanges; sent = s.sent; withheld = s.out.items; more = s.more; over = s.over } };
+    ghost view = { λ s. record { received = s.received; requests = s.count; exchanges = s.exchanges; sent = s.sent; withheld = s.out.items; more = s.more; over = s.over; parted = s.farewell } };
 
     ghost invariant = { λ s. IsInMemory P.Protocol.rules
-        (record { received = s.received; requests = s.count; exchanges = s.exchanges; sent = s.sent; withheld = s.out.items; more = s.more; over = s.over })
-        s.held };
+        (record { received = s.received; requests = s.count; exchanges = s.exchanges; sent = s.sent; withheld = s.out.items; more = s.more; over = s.over; parted = s.farewell })
+        s.held s.cut };
 }
 
 /// Appends the protocol's response to an out-of-memory condition, or nothing.
@@ -49,6 +56,19 @@ fn append_last_text<P: Protocol>(out: &mut Vec<u8>)
 {
     if let Some(text) = P::out_of_memory_response() {
         let _ = out.extend_from_slice(text);
+    }
+}
+
+/// The refusal after a device fault, as the last answer of a session; or no bytes, if an answer was cut or there is no memory for it.
+fn refusal_text<P: Protocol>(alloc: Global, cut: bool) -> Vec<u8>
+    ensures { (result.items ≡ []) ⊎ ((cut ≡ false) × (result.items ≡ farewell_text P.rules)) }
+{
+    if cut {
+        return Vec::new(alloc);
+    }
+    match P::answer_text(alloc, true, &Err(Refusal::Numbered(Code::FailedEarlier))) {
+        Ok(text) => text,
+        Err(_) => Vec::new(alloc),
     }
 }
 
@@ -96,9 +116,11 @@ impl<P: Protocol> Session<P> {
             out: Vec::new(alloc),
             more: false,
             over: false,
+            cut: false,
             received: ByteHistory::new(),
             exchanges: ExchangeHistory::new(),
             sent: ByteHistory::new(),
+            farewell: None,
         }
     }
 
@@ -183,5 +205,29 @@ impl<P: Protocol> Session<P> {
     {
         self.sent.add(&self.out, n);
         take_first_off(&mut self.out, n);
+        self.cut = !self.out.as_slice().is_empty();
+    }
+
+    /// Whether the service has parted with the client.
+    pub(crate) fn is_parted(&self) -> bool
+        ensures { result ≡ is_some self.now.parted }
+    {
+        self.farewell.is_some()
+    }
+
+    /// Ends the session after a device fault: the answers that are withheld are dropped. After whole answers the refusal is written in their
+    /// place, as much of it as the stream takes.
+    pub(crate) fn part<S: Stream>(&mut self, alloc: Global, stream: &mut S)
+        requires { self.old.withheld ≢ [] }
+        ensures follows { Follows P.rules self.new }
+        ensures unparted { self.old.parted ≡ None }
+        ensures parted { (farewell : List ℕ) × (self.new ≡ parted_of self.old farewell) × Appends (S.contents stream.old) (S.contents stream.new) farewell }
+        ensures kept { S.remaining stream.new ≡ S.remaining stream.old }
+    {
+        let text = refusal_text::<P>(alloc, self.cut);
+        let count = stream.write(&text);
+        self.farewell = Some(ByteHistory::of(&text, count));
+        self.over = true;
+        self.out.clear();
     }
 }

@@ -1,25 +1,25 @@
-ghost use Rattle.std.specs.Prelude.{◌≡◌, ◌≤◌, IsSome, option_map, take, true, false, vec_len};
-ghost use Rattle.client_loop.specs.Clients.{SlotHears, SlotJoins, SlotLeaves, SlotSends, SlotWrites, free_slot, status_of};
+ghost use Rattle.std.specs.Prelude.{◌≡◌, ◌≤◌, ℕ, List, [], IfNone, IfSome, IsSome, None, option_map, take, true, false, vec_len};
+ghost use Rattle.client_loop.specs.Clients.{SlotDiscards, SlotHears, SlotJoins, SlotLeaves, SlotParts, SlotSends, free_slot, status_of, wire_of};
 ghost use Rattle.client_loop.specs.Conversation.{Follows};
 
 use crate::client::Client;
 use crate::status::ClientStatus;
+use crate::stream::Stream;
 use act_disk::Disk;
 use act_sessions::Protocol;
 use act_store::Store;
 use http_server::Log;
 use std::alloc::Global;
-use std::io::Write;
 use std::marker::Model;
 
 /// A slot for one client at a time, and, for contracts only, the clients that had it before.
 #[derive(Drop)]
-pub(crate) struct Slot<P: Protocol> {
-    client: Option<Client<P>>,
-    earlier: Log<Client<P>, bool>,
+pub(crate) struct Slot<P: Protocol, S: Stream> {
+    client: Option<Client<P, S>>,
+    earlier: Log<Client<P, S>, bool>,
 }
 
-impl<P: Protocol> Model for Slot<P> {
+impl<P: Protocol, S: Stream> Model for Slot<P, S> {
     ghost use Rattle.std.specs.Prelude.{map, ⊤};
     ghost use Rattle.client_loop.specs.Clients.{SlotState};
 
@@ -30,9 +30,9 @@ impl<P: Protocol> Model for Slot<P> {
     ghost invariant = { λ s. ⊤ };
 }
 
-impl<P: Protocol> Slot<P> {
+impl<P: Protocol, S: Stream> Slot<P, S> {
     /// A slot that no client has had.
-    pub(crate) fn new() -> Slot<P>
+    pub(crate) fn new() -> Slot<P, S>
         ensures { result ≡ free_slot }
     {
         Slot {
@@ -51,19 +51,27 @@ impl<P: Protocol> Slot<P> {
         }
     }
 
-    /// Gives the slot to a new client, unless it is taken.
-    pub(crate) fn join(&mut self, alloc: Global) -> bool
-        ensures joined { result ≡ true → SlotJoins self.old self.new }
+    /// The stream of its client.
+    pub(crate) fn stream(&self) -> Option<&S> {
+        match &self.client {
+            Some(client) => Some(client.stream()),
+            None => None,
+        }
+    }
+
+    /// Gives the slot to a new client with its stream, unless it is taken.
+    pub(crate) fn join(&mut self, alloc: Global, stream: S) -> bool
+        ensures joined { result ≡ true → SlotJoins (wire_of S.remaining S.contents stream) self.old self.new }
         ensures taken { result ≡ false → IsSome self.old.client × (self.new ≡ self.old) }
     {
         if self.client.is_some() {
             return false;
         }
-        self.client = Some(Client::new(alloc));
+        self.client = Some(Client::new(alloc, stream));
         true
     }
 
-    /// Frees the slot, and the memory of its client's session.
+    /// Frees the slot, closes its client's stream, and frees the memory of its session.
     pub(crate) fn leave(&mut self)
         ensures { SlotLeaves self.old self.new }
     {
@@ -75,51 +83,89 @@ impl<P: Protocol> Slot<P> {
         }
     }
 
-    /// Hears the first `n` of these bytes from its client, whose session has to go on.
-    pub(crate) fn hear<D: Disk>(
+    /// Reads once from the stream of its client, and hears what came, if its session goes on.
+    pub(crate) fn hear_from<D: Disk>(
         &mut self,
         alloc: Global,
         store: &mut Store<D>,
         number: u64,
-        bytes: &Vec<u8>,
-        n: usize,
-    )
-        requires { n ≤ vec_len bytes.now }
-        ensures { SlotHears (Follows P.rules) number (take n bytes.now.items) store.old store.new self.old self.new }
+        buffer: &mut Vec<u8>,
+    ) -> Option<usize>
+        ensures bound { IfSome result (λ n. n ≤ vec_len buffer.new) }
+        ensures heard { IfSome result (λ n. SlotHears (Follows P.rules) number (take n buffer.new.items) store.old store.new self.old self.new) }
+        ensures none { IfNone result ((self.new ≡ self.old) × (store.new ≡ store.old)) }
     {
         let Some(client) = &mut self.client else {
-            return;
+            return None;
         };
         if client.status().over {
-            return;
+            return None;
         }
-        client.hear(alloc, store, number, bytes, n);
+        client.hear_from(alloc, store, number, buffer)
     }
 
-    /// Notes that the first `n` bytes that are withheld were sent, if there are as many.
-    pub(crate) fn send(&mut self, n: usize) -> bool
-        ensures sent { result ≡ true → SlotSends (Follows P.rules) n self.old self.new }
-        ensures same { result ≡ false → self.new ≡ self.old }
-    {
-        match &mut self.client {
-            Some(client) => {
-                if n > client.status().withheld {
-                    return false;
-                }
-                client.send(n);
-                true
-            }
-            None => false,
-        }
-    }
-
-    /// Writes the bytes that are withheld from its client, and notes how many of them were sent.
-    pub(crate) fn send_to<W: Write>(&mut self, writer: &mut W) -> usize
-        ensures { SlotWrites (Follows P.rules) result (W.contents writer.old) (W.contents writer.new) self.old self.new }
+    /// Continues with what its client has sent before, if its session goes on. Returns whether it does.
+    pub(crate) fn go_on<D: Disk>(
+        &mut self,
+        alloc: Global,
+        store: &mut Store<D>,
+        number: u64,
+    ) -> bool
+        ensures heard { result ≡ true → SlotHears (Follows P.rules) number [] store.old store.new self.old self.new }
+        ensures same { result ≡ false → (self.new ≡ self.old) × (store.new ≡ store.old) }
     {
         let Some(client) = &mut self.client else {
-            return 0;
+            return false;
         };
-        client.send_to(writer)
+        if client.status().over {
+            return false;
+        }
+        client.go_on(alloc, store, number);
+        true
+    }
+
+    /// Writes the bytes that are withheld from its client to its stream, and returns how many of them were sent; `None` if there is no client,
+    /// or the service has parted with it.
+    pub(crate) fn send_to(&mut self) -> Option<usize>
+        ensures sent { IfSome result (λ n. SlotSends (Follows P.rules) n self.old self.new) }
+        ensures none { IfNone result (self.new ≡ self.old) }
+    {
+        let Some(client) = &mut self.client else {
+            return None;
+        };
+        if client.is_parted() {
+            return None;
+        }
+        Some(client.send_to())
+    }
+
+    /// Parts with its client, if bytes are withheld from it. Returns whether it did.
+    pub(crate) fn part(&mut self, alloc: Global) -> bool
+        ensures parted { result ≡ true → (farewell : List ℕ) × SlotParts (Follows P.rules) farewell self.old self.new }
+        ensures same { result ≡ false → self.new ≡ self.old }
+    {
+        let Some(client) = &mut self.client else {
+            return false;
+        };
+        if client.status().withheld == 0 {
+            return false;
+        }
+        client.part(alloc);
+        true
+    }
+
+    /// Reads once from the stream of its client, whose session has to be over, and hears nothing of what came.
+    pub(crate) fn discard(&mut self, buffer: &mut Vec<u8>) -> Option<usize>
+        ensures bound { IfSome result (λ n. n ≤ vec_len buffer.new) }
+        ensures discarded { IfSome result (λ n. SlotDiscards self.old self.new) }
+        ensures none { IfNone result (self.new ≡ self.old) }
+    {
+        let Some(client) = &mut self.client else {
+            return None;
+        };
+        if !client.status().over {
+            return None;
+        }
+        client.discard(buffer)
     }
 }

@@ -1,25 +1,25 @@
-ghost use Rattle.std.specs.Prelude.{◌≡◌, ◌≤◌, ◌<◌, ◌↔◌, ◌+◌, IfOk, IsTrue, length, replicate, take, true, false, vec_len};
-ghost use Rattle.client_loop.specs.Clients.{SlotHears, SlotJoins, SlotLeaves, SlotSends, SlotWrites, free_slot};
+ghost use Rattle.std.specs.Prelude.{◌≡◌, ◌≤◌, ◌<◌, ◌↔◌, ◌+◌, ℕ, List, [], IfNone, IfOk, IfSome, IsSome, IsTrue, length, replicate, take, true, false, vec_len};
+ghost use Rattle.client_loop.specs.Clients.{SlotDiscards, SlotHears, SlotJoins, SlotLeaves, SlotParts, SlotSends, free_slot, wire_of};
 ghost use Rattle.client_loop.specs.Slots.{AreFree, ChangesSlot, by_port, status_at};
 
 use crate::slot::Slot;
 use crate::status::ClientStatus;
+use crate::stream::Stream;
 use act_disk::Disk;
 use act_sessions::Protocol;
 use act_store::Store;
 use std::alloc::{AllocError, Global};
-use std::io::Write;
 use std::marker::Model;
 
 /// The slots of two ports under one numbering: first those of hooks, then those of runners. The number of a slot is that of its clients'
 /// entries.
 #[derive(Drop)]
-pub struct Slots<P: Protocol, Q: Protocol> {
-    hooks: Vec<Slot<P>>,
-    runners: Vec<Slot<Q>>,
+pub struct Slots<P: Protocol, Q: Protocol, S: Stream> {
+    hooks: Vec<Slot<P, S>>,
+    runners: Vec<Slot<Q, S>>,
 }
 
-impl<P: Protocol, Q: Protocol> Model for Slots<P, Q> {
+impl<P: Protocol, Q: Protocol, S: Stream> Model for Slots<P, Q, S> {
     ghost use Rattle.std.specs.Prelude.{◌++◌, length, ⊤};
     ghost use Rattle.client_loop.specs.Slots.{SlotsState};
 
@@ -31,7 +31,10 @@ impl<P: Protocol, Q: Protocol> Model for Slots<P, Q> {
 }
 
 /// Slots that no client has had.
-fn free_slots<P: Protocol>(alloc: Global, count: usize) -> Result<Vec<Slot<P>>, AllocError>
+fn free_slots<P: Protocol, S: Stream>(
+    alloc: Global,
+    count: usize,
+) -> Result<Vec<Slot<P, S>>, AllocError>
     ensures { IfOk result (λ slots. slots.items ≡ replicate count free_slot) }
 {
     let mut slots = Vec::new(alloc);
@@ -41,9 +44,13 @@ fn free_slots<P: Protocol>(alloc: Global, count: usize) -> Result<Vec<Slot<P>>, 
     Ok(slots)
 }
 
-impl<P: Protocol, Q: Protocol> Slots<P, Q> {
+impl<P: Protocol, Q: Protocol, S: Stream> Slots<P, Q, S> {
     /// So many slots of each port that no client has had.
-    pub fn new(alloc: Global, hooks: usize, runners: usize) -> Result<Slots<P, Q>, AllocError>
+    pub fn new(
+        alloc: Global,
+        hooks: usize,
+        runners: usize,
+    ) -> Result<Slots<P, Q, S>, AllocError>
         ensures hooks { IfOk result (λ slots. slots.hooks ≡ hooks) }
         ensures all { IfOk result (λ slots. length slots.all ≡ hooks + runners) }
         ensures free { IfOk result (λ slots. AreFree slots.all) }
@@ -72,21 +79,32 @@ impl<P: Protocol, Q: Protocol> Slots<P, Q> {
         }
     }
 
-    /// Gives a slot to a new client, unless it is taken.
-    pub(crate) fn join(&mut self, alloc: Global, index: usize) -> bool
-        requires { index < length self.old.all }
-        ensures joined { result ≡ true → ChangesSlot SlotJoins index self.old self.new }
-        ensures taken { result ≡ false → self.new ≡ self.old }
+    /// The stream of the client of a slot.
+    pub(crate) fn stream(&self, index: usize) -> Option<&S>
+        requires { index < length self.now.all }
     {
         if index < self.hooks.len() {
-            self.hooks[index].join(alloc)
+            self.hooks[index].stream()
         } else {
-            let runner = index - self.hooks.len();
-            self.runners[runner].join(alloc)
+            self.runners[index - self.hooks.len()].stream()
         }
     }
 
-    /// Frees a slot, and the memory of its client's session.
+    /// Gives a slot to a new client with its stream, unless it is taken.
+    pub(crate) fn join(&mut self, alloc: Global, index: usize, stream: S) -> bool
+        requires { index < length self.old.all }
+        ensures joined { result ≡ true → ChangesSlot (SlotJoins (wire_of S.remaining S.contents stream)) index self.old self.new }
+        ensures taken { result ≡ false → IsSome (status_at self.old index) × (self.new ≡ self.old) }
+    {
+        if index < self.hooks.len() {
+            self.hooks[index].join(alloc, stream)
+        } else {
+            let runner = index - self.hooks.len();
+            self.runners[runner].join(alloc, stream)
+        }
+    }
+
+    /// Frees a slot, closes its client's stream, and frees the memory of its session.
     pub(crate) fn leave(&mut self, index: usize)
         requires { index < length self.old.all }
         ensures { ChangesSlot SlotLeaves index self.old self.new }
@@ -99,53 +117,90 @@ impl<P: Protocol, Q: Protocol> Slots<P, Q> {
         }
     }
 
-    /// Hears the first `n` of these bytes from the client of a slot.
-    pub(crate) fn hear<D: Disk>(
+    /// Reads once from the stream of the client of a slot, and hears what came, if its session goes on.
+    pub(crate) fn hear_from<D: Disk>(
         &mut self,
         alloc: Global,
         store: &mut Store<D>,
         index: usize,
-        bytes: &Vec<u8>,
-        n: usize,
-    )
-        requires index { index < length self.old.all }
-        requires within { n ≤ vec_len bytes.now }
-        ensures { ChangesSlot (SlotHears (by_port self.old.hooks P.rules Q.rules index) index (take n bytes.now.items) store.old store.new)
-            index self.old self.new }
+        buffer: &mut Vec<u8>,
+    ) -> Option<usize>
+        requires { index < length self.old.all }
+        ensures bound { IfSome result (λ n. n ≤ vec_len buffer.new) }
+        ensures heard { IfSome result (λ n. ChangesSlot
+            (SlotHears (by_port self.old.hooks P.rules Q.rules index) index (take n buffer.new.items) store.old store.new) index self.old self.new) }
+        ensures none { IfNone result ((self.new ≡ self.old) × (store.new ≡ store.old)) }
     {
         if index < self.hooks.len() {
-            self.hooks[index].hear(alloc, store, index as u64, bytes, n);
+            self.hooks[index].hear_from(alloc, store, index as u64, buffer)
         } else {
             let runner = index - self.hooks.len();
-            self.runners[runner].hear(alloc, store, index as u64, bytes, n);
+            self.runners[runner].hear_from(alloc, store, index as u64, buffer)
         }
     }
 
-    /// Notes that the first `n` bytes that are withheld from the client of a slot were sent, if there are as many.
-    pub(crate) fn send(&mut self, index: usize, n: usize) -> bool
+    /// Continues with what the client of a slot has sent before, if its session goes on. Returns whether it does.
+    pub(crate) fn go_on<D: Disk>(
+        &mut self,
+        alloc: Global,
+        store: &mut Store<D>,
+        index: usize,
+    ) -> bool
         requires { index < length self.old.all }
-        ensures sent { result ≡ true → ChangesSlot (SlotSends (by_port self.old.hooks P.rules Q.rules index) n) index self.old self.new }
+        ensures heard { result ≡ true → ChangesSlot (SlotHears (by_port self.old.hooks P.rules Q.rules index) index [] store.old store.new)
+            index self.old self.new }
+        ensures same { result ≡ false → (self.new ≡ self.old) × (store.new ≡ store.old) }
+    {
+        if index < self.hooks.len() {
+            self.hooks[index].go_on(alloc, store, index as u64)
+        } else {
+            let runner = index - self.hooks.len();
+            self.runners[runner].go_on(alloc, store, index as u64)
+        }
+    }
+
+    /// Writes the bytes that are withheld from the client of a slot to its stream, and returns how many of them were sent; `None` if there is
+    /// no client, or the service has parted with it.
+    pub(crate) fn send_to(&mut self, index: usize) -> Option<usize>
+        requires { index < length self.old.all }
+        ensures sent { IfSome result (λ n. ChangesSlot (SlotSends (by_port self.old.hooks P.rules Q.rules index) n) index self.old self.new) }
+        ensures none { IfNone result (self.new ≡ self.old) }
+    {
+        if index < self.hooks.len() {
+            self.hooks[index].send_to()
+        } else {
+            let runner = index - self.hooks.len();
+            self.runners[runner].send_to()
+        }
+    }
+
+    /// Parts with the client of a slot, if bytes are withheld from it. Returns whether it did.
+    pub(crate) fn part(&mut self, alloc: Global, index: usize) -> bool
+        requires { index < length self.old.all }
+        ensures parted { result ≡ true → (farewell : List ℕ)
+            × ChangesSlot (SlotParts (by_port self.old.hooks P.rules Q.rules index) farewell) index self.old self.new }
         ensures same { result ≡ false → self.new ≡ self.old }
     {
         if index < self.hooks.len() {
-            self.hooks[index].send(n)
+            self.hooks[index].part(alloc)
         } else {
             let runner = index - self.hooks.len();
-            self.runners[runner].send(n)
+            self.runners[runner].part(alloc)
         }
     }
 
-    /// Writes the bytes that are withheld from the client of a slot, and notes how many of them were sent.
-    pub(crate) fn send_to<W: Write>(&mut self, index: usize, writer: &mut W) -> usize
+    /// Reads once from the stream of the client of a slot, whose session has to be over, and hears nothing of what came.
+    pub(crate) fn discard(&mut self, index: usize, buffer: &mut Vec<u8>) -> Option<usize>
         requires { index < length self.old.all }
-        ensures { ChangesSlot (SlotWrites (by_port self.old.hooks P.rules Q.rules index) result (W.contents writer.old) (W.contents writer.new))
-            index self.old self.new }
+        ensures bound { IfSome result (λ n. n ≤ vec_len buffer.new) }
+        ensures discarded { IfSome result (λ n. ChangesSlot SlotDiscards index self.old self.new) }
+        ensures none { IfNone result (self.new ≡ self.old) }
     {
         if index < self.hooks.len() {
-            self.hooks[index].send_to(writer)
+            self.hooks[index].discard(buffer)
         } else {
             let runner = index - self.hooks.len();
-            self.runners[runner].send_to(writer)
+            self.runners[runner].discard(buffer)
         }
     }
 }

@@ -11,5 +11,5 @@ returns-clause-stays g c = λ hooks index old new next stuck happens.
     stuck_on (by_port hooks g.P.Protocol.rules g.Q.Protocol.rules) index old new next stuck happens
 
 pub returns-clause-silent : goal.returns-clause-silent
-returns-clause-silent g c = λ hooks index n old new stuck happens.
-    stuck_silent (by_port hooks g.P.Protocol.rules g.Q.Protocol.rules) index n old new stuck happens
+returns-clause-silent g c = λ hooks index old new stuck happens.
+    stuck_silent (by_port hooks g.P.Protocol.rules g.Q.Protocol.rules) index old new stuck happens

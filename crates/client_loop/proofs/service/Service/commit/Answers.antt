@@ -1,7 +1,10 @@
-use Rattle.std.proofs.Common.{subst}
-use Rattle.client_loop.specs.Events.{IsQuiet, Survives}
+use Rattle.std.proofs.Common.{◌≡◌, ◌∙◌, Bool, ap, false, refl, subst, sym, true}
+use Rattle.std.specs.Prelude.{IfErr}
+use Rattle.act_disk.specs.Failed.{device_failed}
+use Rattle.act_store.specs.StoreState.{StoreState}
+use Rattle.client_loop.specs.Events.{IsBroken, IsQuiet, Survives}
 use Rattle.client_loop.proofs.Happening.{commits, commits_survive}
-use Rattle.client_loop.proofs.Machine.{commit_keeps, service_covers}
+use Rattle.client_loop.proofs.Machine.{commit_breaks, commit_keeps, service_covers}
 use Rattle.client_loop.specs.Service.{ServiceState}
 use Rattle.client_loop.specs.Slots.{by_port}
 use Rattle.client_loop.proofs.service.Service.commit.Goals as goal
@@ -42,3 +45,20 @@ returns-clause-survives g c =
     subst (λ (o : ServiceState g.row.D.Denot). Survives disk.honest disk.moment disk.images_since o new) c.self.view_is
     (commits_survive p disk.honest disk.moment disk.images_since disk.images g.met.D.Disk.only_now s c.self.invariant now.within now.legal now.promise
     c.commit.new.self keeps.0 keeps.1 k.grows (λ failed. (k.failed failed).1) k.any_moment k.honest)
+
+pub returns-clause-refused : goal.returns-clause-refused
+returns-clause-refused g c = λ failed.
+    let f = c.self.inside in
+    let s : ServiceState g.row.D.Denot = record { store = f.store; origin = f.first.value.base; past = f.past; slots = f.slots } in
+    let was : f.store.failed ≡ true = ap (λ (o : ServiceState g.row.D.Denot). o.store.failed) c.self.view_is ∙ failed in
+    let k = c.commit.ensures.failed was in
+    (k.0, ap (λ (t : StoreState g.row.D.Denot). record s { store = t }) k.1 ∙ c.self.view_is)
+
+pub returns-clause-broken : goal.returns-clause-broken
+returns-clause-broken g c =
+    let f = c.self.inside in
+    let s : ServiceState g.row.D.Denot = record { store = f.store; origin = f.first.value.base; past = f.past; slots = f.slots } in
+    let k = c.commit.ensures in
+    subst (λ (o : ServiceState g.row.D.Denot). IfErr c.commit.result (λ e. o.store.failed ≡ false
+    → (e ≡ device_failed) × IsBroken o (record s { store = c.commit.new.self }))) c.self.view_is
+    (commit_breaks s c.commit.new.self c.commit.result k.refused k.pending k.broken)

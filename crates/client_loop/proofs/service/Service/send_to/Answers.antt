@@ -1,37 +1,36 @@
-use Rattle.std.proofs.Common.{ℕ, [], ◌≡◌, inr, refl, rules, subst, sym}
-use Rattle.client_loop.specs.Clients.{SlotWrites}
+use Rattle.std.proofs.Common.{ℕ, [], ◌≡◌, refl, rules, subst, sym}
+use Rattle.std.specs.Prelude.{IfSome}
+use Rattle.client_loop.specs.Clients.{SlotSends}
 use Rattle.client_loop.specs.Entering.{part_of}
 use Rattle.client_loop.specs.Events.{Survives}
-use Rattle.client_loop.specs.Service.{ServiceWrites, ServiceState, pending_of}
+use Rattle.client_loop.specs.Service.{ServiceSends, ServiceState, pending_of}
+use Rattle.client_loop.proofs.Happening.{changes_some, stays}
+use Rattle.client_loop.proofs.Machine.{service_sends_some}
+use Rattle.client_loop.proofs.PortSlots.{some_then}
 use Rattle.client_loop.specs.Slots.{by_port}
-use Rattle.client_loop.proofs.Happening.{changes, stays}
-use Rattle.client_loop.proofs.Machine.{service_writes}
 use Rattle.client_loop.proofs.service.Service.send_to.Goals as goal
 
 pub invariant_of-self : goal.invariant_of-self
 invariant_of-self g c =
     let f = c.self.inside in
     let s : ServiceState g.row.D.Denot = record { store = f.store; origin = f.first.value.base; past = f.past; slots = f.slots } in
-    let out = g.W.Write.contents c.args.writer.now in
-    let out_new = g.W.Write.contents c.send_to.new.writer in
     let may : part_of c.args.index (pending_of c.args.self.now) ≡ [] = c.may_send.ensures.0 (search rules) in
     let none : part_of c.args.index (pending_of s) ≡ [] =
     subst (λ (o : ServiceState g.row.D.Denot). part_of c.args.index (pending_of o) ≡ []) (sym c.self.view_is) may in
-    service_writes (λ (hooks : ℕ). by_port hooks g.P.Protocol.rules g.Q.Protocol.rules) s c.self.invariant
-    c.covered-covered.ensures.within c.args.index c.send_to.result out out_new c.send_to.new.self none c.send_to.ensures
+    service_sends_some (λ (hooks : ℕ). by_port hooks g.P.Protocol.rules g.Q.Protocol.rules) s c.self.invariant
+    c.covered-covered.ensures.within c.args.index c.send_to.new.self none c.send_to.result c.send_to.ensures.sent c.send_to.ensures.none
 
-pub returns-clause-wrote : goal.returns-clause-wrote
-returns-clause-wrote g c =
+pub returns-clause-sent : goal.returns-clause-sent
+returns-clause-sent g c =
     let f = c.self.inside in
     let s : ServiceState g.row.D.Denot = record { store = f.store; origin = f.first.value.base; past = f.past; slots = f.slots } in
-    let out = g.W.Write.contents c.args.writer.now in
-    let out_new = g.W.Write.contents c.send_to.new.writer in
     let may : part_of c.args.index (pending_of c.args.self.now) ≡ [] = c.may_send.ensures.0 (search rules) in
     let none : part_of c.args.index (pending_of s) ≡ [] =
     subst (λ (o : ServiceState g.row.D.Denot). part_of c.args.index (pending_of o) ≡ []) (sym c.self.view_is) may in
     let new : ServiceState g.row.D.Denot = record s { slots = c.send_to.new.self } in
-    inr (subst (λ (o : ServiceState g.row.D.Denot). ServiceWrites (by_port o.slots.hooks g.P.Protocol.rules g.Q.Protocol.rules) c.args.index c.send_to.result
-    out out_new o new) c.self.view_is (record { covered = none; writes = c.send_to.ensures; is = refl }))
+    subst (λ (o : ServiceState g.row.D.Denot). IfSome c.send_to.result (λ n. ServiceSends (by_port o.slots.hooks g.P.Protocol.rules g.Q.Protocol.rules)
+    c.args.index n o new)) c.self.view_is
+    (some_then c.send_to.result _ _ (λ n change. record { covered = none; sends = change; is = refl }) c.send_to.ensures.sent)
 
 pub returns-clause-survives : goal.returns-clause-survives
 returns-clause-survives g c =
@@ -40,15 +39,13 @@ returns-clause-survives g c =
     let p = by_port f.slots.hooks g.P.Protocol.rules g.Q.Protocol.rules in
     let disk = g.D.Disk in
     let k = c.covered-covered.ensures in
-    let out = g.W.Write.contents c.args.writer.now in
-    let out_new = g.W.Write.contents c.send_to.new.writer in
     let new : ServiceState g.row.D.Denot = record s { slots = c.send_to.new.self } in
     subst (λ (o : ServiceState g.row.D.Denot). Survives disk.honest disk.moment disk.images_since o new) c.self.view_is
-    (changes p disk.honest disk.moment disk.images_since disk.images g.met.D.Disk.only_now s c.self.invariant k.within k.legal k.promise
-    (SlotWrites (p c.args.index) c.send_to.result out out_new) c.args.index c.send_to.new.self c.send_to.ensures)
+    (changes_some p disk.honest disk.moment disk.images_since disk.images g.met.D.Disk.only_now s c.self.invariant k.within k.legal k.promise
+    (λ (n : ℕ). SlotSends (p c.args.index) n) c.args.index c.send_to.new.self c.send_to.result c.send_to.ensures.sent c.send_to.ensures.none)
 
-pub returns-then-not-may_send-clause-survives : goal.returns-then-not-may_send-clause-survives
-returns-then-not-may_send-clause-survives g c =
+pub returns-then-not-has-not-may_send-clause-survives : goal.returns-then-not-has-not-may_send-clause-survives
+returns-then-not-has-not-may_send-clause-survives g c =
     let f = c.self.inside in
     let s : ServiceState g.row.D.Denot = record { store = f.store; origin = f.first.value.base; past = f.past; slots = f.slots } in
     let p = by_port f.slots.hooks g.P.Protocol.rules g.Q.Protocol.rules in

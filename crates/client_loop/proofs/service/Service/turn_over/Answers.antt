@@ -1,12 +1,13 @@
-use Rattle.std.proofs.Common.{◌≡◌, ap, rules, subst, sym}
-use Rattle.std.specs.Prelude.{None}
-use Rattle.act_store.specs.Plain.{refusal_of_turn_over}
+use Rattle.std.proofs.Common.{◌≡◌, ◌∙◌, List, ap, rules, subst, sym}
+use Rattle.std.specs.Prelude.{None, Some}
+use Rattle.act_store.specs.Plain.{refusal_of_turn_over, turned_over}
+use Rattle.act_store.specs.declared.entry.Entry.{Entry}
 use Rattle.act_store.specs.StoreState.{StoreState}
 use Rattle.client_loop.specs.Events.{IsQuiet, Survives}
 use Rattle.client_loop.proofs.Happening.{stays, still_quiet, turns, turns_survive}
 use Rattle.client_loop.proofs.QuietSteps.{turns_live}
 use Rattle.client_loop.proofs.Machine.{all_covered, service_turns}
-use Rattle.client_loop.specs.Service.{IsService, ServiceState}
+use Rattle.client_loop.specs.Service.{IsService, ServiceState, history_of}
 use Rattle.client_loop.specs.Slots.{by_port}
 use Rattle.client_loop.proofs.service.Service.turn_over.Goals as goal
 
@@ -76,3 +77,15 @@ returns-in_err-turn_over-clause-quiet g c =
     let new : ServiceState g.row.D.Denot = record s { store = c.turn_over.new.self } in
     subst (λ (o : ServiceState g.row.D.Denot). IsQuiet o new) c.self.view_is
     (still_quiet s new (ap (λ (t : StoreState g.row.D.Denot). record s { store = t }) c.in_err-turn_over.ensures.unchanged))
+
+pub returns-clause-turned : goal.returns-clause-turned
+returns-clause-turned g c =
+    let f = c.self.inside in
+    let s : ServiceState g.row.D.Denot = record { store = f.store; origin = f.first.value.base; past = f.past; slots = f.slots } in
+    subst (λ (o : ServiceState g.row.D.Denot). record s { store = c.turn_over.new.self; past = c.with-past.result }
+    ≡ record o { store = turned_over o.store; past = history_of o }) c.self.view_is
+    (ap (λ (t : StoreState g.row.D.Denot). record s { store = t; past = c.with-past.result }) c.in_ok-turn_over.ensures.turned
+    ∙ ap (λ (l : List Entry). record s { store = turned_over s.store; past = l }) c.with-past.ensures)
+
+pub returns-in_err-turn_over-clause-cause : goal.returns-in_err-turn_over-clause-cause
+returns-in_err-turn_over-clause-cause g c = ?

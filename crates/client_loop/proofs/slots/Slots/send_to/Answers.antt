@@ -1,20 +1,31 @@
-use Rattle.std.proofs.Common.{◌<◌, arith, length}
-use Rattle.client_loop.specs.Clients.{SlotWrites, SlotState}
+use Rattle.std.proofs.Common.{◌-◌, ◌<◌, ℕ, arith, length}
+use Rattle.client_loop.specs.Clients.{SlotSends, SlotState}
 use Rattle.client_loop.specs.Conversation.{Conversation}
-use Rattle.client_loop.proofs.PortSlots.{changes_hook, changes_runner}
+use Rattle.client_loop.proofs.PortSlots.{none_then, runner_below, same_hook, same_runner, some_hook, some_runner}
 use Rattle.client_loop.proofs.slots.Slots.send_to.Goals as goal
 
-pub returns-then-index-len : goal.returns-then-index-len
-returns-then-index-len g c =
+pub returns-then-index-len-clause-sent : goal.returns-then-index-len-clause-sent
+returns-then-index-len-clause-sent g c =
     let s = c.self.inside in
-    let below : c.args.index < length s.hooks.items = omega (arith, c.if-index-len.true, c.len.ensures) in
-    changes_hook (λ (follows : Conversation → Type 0) (was now : SlotState). SlotWrites follows c.send_to.result (g.W.Write.contents c.args.writer.now) (g.W.Write.contents c.send_to.new.writer) was now)
-    g.P.Protocol.rules g.Q.Protocol.rules c.args.index s.hooks.items s.runners.items c.send_to.new.self c.args.self.now c.self.view_is below c.index_mut.result.now c.index_mut.ensures.value
-    c.send_to.ensures
+    some_hook (λ (n : ℕ) (follows : Conversation → Type 0) (was now : SlotState). SlotSends follows n was now)
+    g.P.Protocol.rules g.Q.Protocol.rules c.args.index s.hooks.items s.runners.items c.send_to.new.self c.args.self.now c.self.view_is (omega (arith, c.if-index-len.true, c.len.ensures)) c.index_mut.result.now c.index_mut.ensures.value
+    c.send_to.result c.send_to.ensures.sent
 
-pub returns-else-index-len : goal.returns-else-index-len
-returns-else-index-len g c =
+pub returns-else-index-len-clause-sent : goal.returns-else-index-len-clause-sent
+returns-else-index-len-clause-sent g c =
     let s = c.self.inside in
-    changes_runner (λ (follows : Conversation → Type 0) (was now : SlotState). SlotWrites follows c.send_to-else-index-len.result (g.W.Write.contents c.args.writer.now) (g.W.Write.contents c.send_to-else-index-len.new.writer) was now)
+    some_runner (λ (n : ℕ) (follows : Conversation → Type 0) (was now : SlotState). SlotSends follows n was now)
     g.P.Protocol.rules g.Q.Protocol.rules c.args.index s.hooks.items s.runners.items c.send_to-else-index-len.new.self c.args.self.now c.self.view_is c.requires c.len-else-index-len.result (omega (arith, c.len-else-index-len.ensures)) (omega (arith, c.if-index-len.false, c.len.ensures, c.len-else-index-len.ensures)) c.index_mut-else-index-len.result.now c.index_mut-else-index-len.ensures.value
-    c.send_to-else-index-len.ensures
+    c.send_to-else-index-len.result c.send_to-else-index-len.ensures.sent
+
+pub returns-then-index-len-clause-none : goal.returns-then-index-len-clause-none
+returns-then-index-len-clause-none g c =
+    let s = c.self.inside in
+    none_then c.send_to.result _ _ (λ so. same_hook s.hooks.items s.runners.items c.args.self.now c.self.view_is c.args.index (omega (arith, c.if-index-len.true, c.len.ensures)) c.index_mut.result.now c.send_to.new.self c.index_mut.ensures.value so)
+    c.send_to.ensures.none
+
+pub returns-else-index-len-clause-none : goal.returns-else-index-len-clause-none
+returns-else-index-len-clause-none g c =
+    let s = c.self.inside in
+    none_then c.send_to-else-index-len.result _ _ (λ so. same_runner s.hooks.items s.runners.items c.args.self.now c.self.view_is (c.args.index - c.len-else-index-len.result) (runner_below s.hooks.items s.runners.items c.args.self.now c.self.view_is c.args.index c.requires c.len-else-index-len.result (omega (arith, c.len-else-index-len.ensures)) (omega (arith, c.if-index-len.false, c.len.ensures, c.len-else-index-len.ensures))) c.index_mut-else-index-len.result.now c.send_to-else-index-len.new.self c.index_mut-else-index-len.ensures.value so)
+    c.send_to-else-index-len.ensures.none

@@ -1,0 +1,54 @@
+use Rattle.std.proofs.Common.{ℕ, [], List, drop, ◌∙◌, ap, refl, rules, subst, sym}
+use Rattle.std.specs.Prelude.{◌≢◌}
+use Rattle.act_store.specs.StoreState.{StoreState}
+use Rattle.client_loop.specs.Events.{Survives}
+use Rattle.client_loop.specs.Service.{IsStuck, ServiceParts, ServiceState}
+use Rattle.client_loop.proofs.Happening.{parts_or_not, stays}
+use Rattle.client_loop.proofs.Machine.{service_parts_or_not}
+use Rattle.client_loop.proofs.PendingPart.{stuck_of}
+use Rattle.client_loop.specs.Slots.{by_port}
+use Rattle.client_loop.proofs.service.Service.part.Goals as goal
+
+pub invariant_of-self : goal.invariant_of-self
+invariant_of-self g c =
+    let f = c.self.inside in
+    let s : ServiceState g.row.D.Denot = record { store = f.store; origin = f.first.value.base; past = f.past; slots = f.slots } in
+    service_parts_or_not (λ (hooks : ℕ). by_port hooks g.P.Protocol.rules g.Q.Protocol.rules) s c.self.invariant
+    c.covered-covered.ensures.within c.args.index c.is_stuck.new.store c.part.new.self c.is_stuck.ensures.same c.part.result c.part.ensures.parted c.part.ensures.same
+
+pub returns-clause-parted : goal.returns-clause-parted
+returns-clause-parted g c = λ so.
+    let f = c.self.inside in
+    let s : ServiceState g.row.D.Denot = record { store = f.store; origin = f.first.value.base; past = f.past; slots = f.slots } in
+    let new : ServiceState g.row.D.Denot = record s { store = c.is_stuck.new.store; slots = c.part.new.self } in
+    let stuck : IsStuck c.args.index s =
+    stuck_of s c.args.index (c.is_stuck.ensures.failed (search rules)) (c.is_stuck.ensures.pending (search rules)) in
+    let parts = c.part.ensures.parted so in
+    (parts.0, subst (λ (o : ServiceState g.row.D.Denot). ServiceParts (by_port o.slots.hooks g.P.Protocol.rules g.Q.Protocol.rules) c.args.index parts.0 o new)
+    c.self.view_is (record {
+      stuck = stuck;
+      parts = parts.1;
+      is = ap (λ (t : StoreState g.row.D.Denot). record s { store = t; slots = c.part.new.self }) c.is_stuck.ensures.same;
+    }))
+
+pub returns-clause-survives : goal.returns-clause-survives
+returns-clause-survives g c =
+    let f = c.self.inside in
+    let s : ServiceState g.row.D.Denot = record { store = f.store; origin = f.first.value.base; past = f.past; slots = f.slots } in
+    let p = by_port f.slots.hooks g.P.Protocol.rules g.Q.Protocol.rules in
+    let disk = g.D.Disk in
+    let k = c.covered-covered.ensures in
+    let new : ServiceState g.row.D.Denot = record s { store = c.is_stuck.new.store; slots = c.part.new.self } in
+    subst (λ (o : ServiceState g.row.D.Denot). Survives disk.honest disk.moment disk.images_since o new) c.self.view_is
+    (parts_or_not p disk.honest disk.moment disk.images_since disk.images g.met.D.Disk.only_now s c.self.invariant k.within k.legal k.promise c.args.index
+    c.is_stuck.new.store c.part.new.self c.is_stuck.ensures.same c.part.result c.part.ensures.parted c.part.ensures.same)
+
+pub returns-then-not-has-not-is_stuck-clause-survives : goal.returns-then-not-has-not-is_stuck-clause-survives
+returns-then-not-has-not-is_stuck-clause-survives g c =
+    let f = c.self.inside in
+    let s : ServiceState g.row.D.Denot = record { store = f.store; origin = f.first.value.base; past = f.past; slots = f.slots } in
+    let p = by_port f.slots.hooks g.P.Protocol.rules g.Q.Protocol.rules in
+    let disk = g.D.Disk in
+    let k = c.covered-covered.ensures in
+    subst (λ (o : ServiceState g.row.D.Denot). Survives disk.honest disk.moment disk.images_since o o) c.self.view_is
+    (stays p disk.honest disk.moment disk.images_since disk.images g.met.D.Disk.only_now s c.self.invariant k.within k.legal k.promise s refl)

@@ -1,0 +1,19 @@
+use Rattle.std.proofs.Common.{◌≡◌, ◌∙◌, Bool, List, ap, sym}
+use Rattle.std.specs.Prelude.{Option, Some, map}
+use Rattle.client_loop.specs.Clients.{ClientState, SlotState, with_client}
+use Rattle.client_loop.proofs.PortSlots.{none_then, some_then}
+use Rattle.client_loop.proofs.slot.Slot.hear_from.Goals as goal
+
+pub returns-clause-heard : goal.returns-clause-heard
+returns-clause-heard g c =
+    let earlier : List ClientState = map (λ (x : ClientState × Bool). x.0) c.self.inside.earlier.items in
+    let client : ClientState = c.in-Some.client in
+    let here : c.args.self.now.client ≡ Some client = ap (λ (s : SlotState). s.client) (sym c.self.view_is) ∙ c.in-Some.is in
+    some_then c.hear_from.result _ _ (λ n heard. (client, c.hear_from.new.self, here, ap (λ (s : SlotState). with_client s c.hear_from.new.self) c.self.view_is, heard)) c.hear_from.ensures.heard
+
+pub returns-clause-none : goal.returns-clause-none
+returns-clause-none g c =
+    let earlier : List ClientState = map (λ (x : ClientState × Bool). x.0) c.self.inside.earlier.items in
+    let client : ClientState = c.in-Some.client in
+    let here : c.args.self.now.client ≡ Some client = ap (λ (s : SlotState). s.client) (sym c.self.view_is) ∙ c.in-Some.is in
+    none_then c.hear_from.result _ _ (λ same. (ap (λ (o : Option ClientState). record { earlier = earlier; client = o }) (ap (λ (x : ClientState). Some x) same.0 ∙ sym c.in-Some.is) ∙ c.self.view_is, same.1)) c.hear_from.ensures.none

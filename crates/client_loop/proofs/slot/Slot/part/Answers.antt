@@ -1,0 +1,11 @@
+use Rattle.std.proofs.Common.{◌≡◌, ◌∙◌, Bool, List, ap, sym}
+use Rattle.std.specs.Prelude.{Option, Some, map}
+use Rattle.client_loop.specs.Clients.{ClientState, SlotState, with_client}
+use Rattle.client_loop.proofs.slot.Slot.part.Goals as goal
+
+pub returns-clause-parted : goal.returns-clause-parted
+returns-clause-parted g c = λ so.
+    let earlier : List ClientState = map (λ (x : ClientState × Bool). x.0) c.self.inside.earlier.items in
+    let client : ClientState = c.in-Some.client in
+    let here : c.args.self.now.client ≡ Some client = ap (λ (s : SlotState). s.client) (sym c.self.view_is) ∙ c.in-Some.is in
+    (c.part.ensures.0, (client, c.part.new.self, here, ap (λ (s : SlotState). with_client s c.part.new.self) c.self.view_is, c.part.ensures.1))
