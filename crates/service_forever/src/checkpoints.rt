@@ -1,5 +1,6 @@
 //! Checkpoints of a service without end, a few slices in each turn.
 
+use crate::stream::ClientStream;
 use act_disk::Disk;
 use act_store::{Played, Step};
 use client_loop::Service;
@@ -48,7 +49,7 @@ impl Checkpoints {
     pub(crate) fn advance<D: Disk>(
         &mut self,
         alloc: Global,
-        service: &mut Service<D, Hooks, RunnerLines>,
+        service: &mut Service<D, Hooks, RunnerLines, ClientStream>,
         slices: u64,
     ) -> Result<(), Refusal> {
         if self.left.is_none() {
@@ -67,7 +68,7 @@ impl Checkpoints {
     fn begin<D: Disk>(
         &mut self,
         alloc: Global,
-        service: &mut Service<D, Hooks, RunnerLines>,
+        service: &mut Service<D, Hooks, RunnerLines, ClientStream>,
     ) -> Result<(), Refusal> {
         let store = service.store();
         let (room, covered) = (store.room(), store.covered());
@@ -83,7 +84,7 @@ impl Checkpoints {
     fn step<D: Disk>(
         &mut self,
         alloc: Global,
-        service: &mut Service<D, Hooks, RunnerLines>,
+        service: &mut Service<D, Hooks, RunnerLines, ClientStream>,
     ) -> Result<(), Refusal> {
         if self.left == Some(0) {
             self.finish(alloc, service)
@@ -96,7 +97,7 @@ impl Checkpoints {
     fn finish<D: Disk>(
         &mut self,
         alloc: Global,
-        service: &mut Service<D, Hooks, RunnerLines>,
+        service: &mut Service<D, Hooks, RunnerLines, ClientStream>,
     ) -> Result<(), Refusal> {
         match service.step(alloc, Step::Finish) {
             Played::Refused(refusal) => self.refused(refusal),

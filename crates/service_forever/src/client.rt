@@ -1,18 +1,14 @@
-//! A client connected to a port. Its stream is non-blocking.
+//! A client connected to a port. Its stream is with its session, in the service.
 
-ghost use Rattle.std.specs.Prelude.{◌<◌, length};
-
+use crate::stream::ClientStream;
 use act_disk::Disk;
 use client_loop::{ClientStatus, Service};
-use client_ports::{ClientReader, ClientWriter, Input, Next, would_block};
+use client_ports::{Input, Next};
 use mio::event::Event;
 use runner_sessions::RunnerLines;
 use std::alloc::Global;
-use std::io::Read;
-use std::net::{Shutdown, TcpStream};
-use std::os::fd::{AsRawFd, RawFd};
+use std::mem;
 use std::time::{Duration, Instant};
-use std::{io, mem};
 use webhook_sessions::Hooks;
 
 /// How long a client whose session is over may stay silent before its stream is closed, in milliseconds.
@@ -46,20 +42,9 @@ pub(crate) struct Released {
     pub(crate) next: Next,
 }
 
-/// Whether the client in a slot may have sent whole requests that are not answered yet.
-fn has_more<D: Disk>(service: &Service<D, Hooks, RunnerLines>, slot: usize) -> bool
-    requires { slot < length service.now.slots.all }
-{
-    match service.status(slot) {
-        Some(status) => status.more,
-        None => false,
-    }
-}
-
 /// A connected client.
 #[derive(Drop)]
 pub(crate) struct Client {
-    stream: TcpStream,
     stage: Stage,
     /// When something was last read from it, or taken by it while answers waited.
     moved: Instant,
@@ -77,12 +62,9 @@ pub(crate) struct Client {
 }
 
 impl Client {
-    /// A client that has just connected. It disables Nagle's algorithm, so that what is written is sent at once.
-    pub(crate) fn new(stream: TcpStream, now: Instant) -> io::Result<Client> {
-        stream.set_nodelay(true)?;
-        stream.set_nonblocking(true)?;
-        Ok(Client {
-            stream,
+    /// A client that has just connected.
+    pub(crate) fn new(now: Instant) -> Client {
+        Client {
             stage: Stage::Talks,
             moved: now,
             input: Input::Drained,
@@ -91,19 +73,11 @@ impl Client {
             discarded: 0,
             is_queued: false,
             has_spoken: false,
-        })
-    }
-
-    pub(crate) fn fd(&self) -> RawFd {
-        self.stream.as_raw_fd()
+        }
     }
 
     pub(crate) fn stage(&self) -> Stage {
         self.stage
-    }
-
-    pub(crate) fn stream(&self) -> &TcpStream {
-        &self.stream
     }
 
     /// Whether it has a turn after its stream has reported this: it has sent something or closed its side, or takes more
@@ -136,21 +110,19 @@ impl Client {
     pub(crate) fn hear<D: Disk>(
         &mut self,
         alloc: Global,
-        service: &mut Service<D, Hooks, RunnerLines>,
+        service: &mut Service<D, Hooks, RunnerLines, ClientStream>,
         slot: usize,
         buffer: &mut Vec<u8>,
         now: Instant,
-    ) -> usize
-        requires { slot < length service.old.slots.all }
-    {
-        if has_more(service, slot) {
+    ) -> usize {
+        if matches!(service.status(slot), Some(status) if status.more) {
             service.go_on(alloc, slot);
             return 0;
         }
-        let mut reader = ClientReader::new(&self.stream, self.is_closing);
-        let count = service.hear_from(alloc, slot, &mut reader, buffer);
-        self.input = reader.input;
-        let count = count.unwrap_or(0);
+        let count = service.hear_from(alloc, slot, buffer).unwrap_or(0);
+        if let Some(stream) = service.stream(slot) {
+            self.has_read(stream.input(), count);
+        }
         if count > 0 {
             self.moved = now;
             self.unanswered = self.unanswered.saturating_add(count);
@@ -158,24 +130,32 @@ impl Client {
         count
     }
 
+    /// A read has given so many bytes, and says this of its input. If it has closed its side, the end is still to be read.
+    fn has_read(&mut self, input: Input, count: usize) {
+        self.input = if self.is_closing && count > 0 {
+            Input::More
+        } else {
+            input
+        };
+    }
+
     /// It was answered. Returns how many bytes were read from it for that.
     pub(crate) fn was_answered(&mut self) -> usize {
         mem::replace(&mut self.unanswered, 0)
     }
 
-    /// Writes what is withheld from it, once that may be sent.
+    /// Sends what is withheld from it, once that may be sent.
     pub(crate) fn release<D: Disk>(
         &mut self,
-        service: &mut Service<D, Hooks, RunnerLines>,
+        service: &mut Service<D, Hooks, RunnerLines, ClientStream>,
         slot: usize,
         now: Instant,
-    ) -> Released
-        requires { slot < length service.old.slots.all }
-    {
-        let (count, has_failed) = self.send(service, slot);
+    ) -> Released {
+        let count = service.send_to(slot).unwrap_or(0);
         if count > 0 {
             self.moved = now;
         }
+        let has_failed = matches!(service.stream(slot), Some(stream) if stream.has_failed());
         let next = if has_failed {
             Next::Closes
         } else {
@@ -187,39 +167,23 @@ impl Client {
     /// What it does next, once it was sent as much of its answers as it takes.
     pub(crate) fn next_in<D: Disk>(
         &mut self,
-        service: &Service<D, Hooks, RunnerLines>,
+        service: &Service<D, Hooks, RunnerLines, ClientStream>,
         slot: usize,
     ) -> Next {
-        if !service.has_slot(slot) {
-            return Next::Closes;
+        match (service.status(slot), service.stream(slot)) {
+            (Some(status), Some(stream)) => self.next_after(status, stream),
+            _ => Next::Closes,
         }
-        match service.status(slot) {
-            Some(status) => self.next_after(status),
-            None => Next::Closes,
-        }
-    }
-
-    /// Writes what is withheld from it. Returns how many bytes it took, and whether its stream has failed.
-    fn send<D: Disk>(
-        &self,
-        service: &mut Service<D, Hooks, RunnerLines>,
-        slot: usize,
-    ) -> (usize, bool)
-        requires { slot < length service.old.slots.all }
-    {
-        let mut writer = ClientWriter::new(&self.stream);
-        let count = service.send_to(slot, &mut writer);
-        (count, writer.has_failed)
     }
 
     /// What a client that stands so does next.
-    fn next_after(&mut self, status: ClientStatus) -> Next {
+    fn next_after(&mut self, status: ClientStatus, stream: &ClientStream) -> Next {
         if status.withheld > 0 {
             self.stage = Stage::Owes;
             return Next::Waits;
         }
         if status.over {
-            return self.leave();
+            return self.leave(stream);
         }
         let owed = self.stage == Stage::Owes;
         self.stage = Stage::Talks;
@@ -234,30 +198,56 @@ impl Client {
     }
 
     /// Shuts down writing to it, since its session is over.
-    pub(crate) fn leave(&mut self) -> Next {
+    fn leave(&mut self, stream: &ClientStream) -> Next {
         self.stage = Stage::Leaves;
-        match self.stream.shutdown(Shutdown::Write) {
-            Ok(()) => Next::Again,
-            Err(_) => Next::Closes,
+        if stream.end() {
+            Next::Again
+        } else {
+            Next::Closes
+        }
+    }
+
+    /// Parts with it, since the device has failed, and shuts down writing to it.
+    pub(crate) fn part<D: Disk>(
+        &mut self,
+        alloc: Global,
+        service: &mut Service<D, Hooks, RunnerLines, ClientStream>,
+        slot: usize,
+    ) {
+        service.part(alloc, slot);
+        if let Some(stream) = service.stream(slot) {
+            self.leave(stream);
         }
     }
 
     /// Discards what it sends after its session. The system resets a stream that is closed while bytes of the client
     /// are unread, and the client may then be unable to read its last answers.
-    pub(crate) fn discard(&mut self, buffer: &mut Vec<u8>, now: Instant) -> Next {
+    pub(crate) fn discard<D: Disk>(
+        &mut self,
+        service: &mut Service<D, Hooks, RunnerLines, ClientStream>,
+        slot: usize,
+        buffer: &mut Vec<u8>,
+        now: Instant,
+    ) -> Next {
         for _ in 0..READS_OF_TURN {
             if self.discarded >= READS {
                 return Next::Closes;
             }
             self.discarded += 1;
-            let mut stream = &self.stream;
-            match stream.read(buffer.as_mut_slice()) {
-                Ok(0) => return Next::Closes,
-                Ok(_) => self.moved = now,
-                Err(e) if would_block(&e) => return Next::Waits,
-                Err(_) => return Next::Closes,
+            match service.discard(slot, buffer) {
+                Some(0) => return Next::Closes,
+                Some(_) => self.moved = now,
+                None => return next_unread(service.stream(slot)),
             }
         }
         Next::Again
+    }
+}
+
+/// What a client does whose stream gave nothing.
+fn next_unread(stream: Option<&ClientStream>) -> Next {
+    match stream {
+        Some(stream) if stream.input() == Input::Drained => Next::Waits,
+        _ => Next::Closes,
     }
 }

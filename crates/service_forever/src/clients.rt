@@ -1,6 +1,7 @@
 //! The clients of both ports, each in its slot, and those that are heard or answered in a turn.
 
 use crate::client::Client;
+use crate::stream::ClientStream;
 use client_ports::{MAX_CLIENTS, Port};
 use mio::event::Event;
 use mio::unix::SourceFd;
@@ -111,8 +112,12 @@ impl<'a> Clients<'a> {
         self.runners.reports();
     }
 
-    /// Accepts a connection to a port, if one has come, and returns the slot of the new client.
-    pub(crate) fn accept(&mut self, number: usize, now: Instant) -> io::Result<Option<usize>> {
+    /// Accepts a connection to a port, if one has come, and returns the slot of the new client with its stream.
+    pub(crate) fn accept(
+        &mut self,
+        number: usize,
+        now: Instant,
+    ) -> io::Result<Option<(usize, ClientStream)>> {
         let accepted = if number == 0 {
             self.hooks.accept()?
         } else {
@@ -121,25 +126,27 @@ impl<'a> Clients<'a> {
         let Some((stream, slot)) = accepted else {
             return Ok(None);
         };
-        if self.add(stream, slot, now).is_err() {
-            self.vacate(slot);
-            return Ok(None);
+        match self.add(stream, slot, now) {
+            Ok(stream) => Ok(Some((slot, stream))),
+            Err(_) => {
+                self.vacate(slot);
+                Ok(None)
+            }
         }
-        Ok(Some(slot))
     }
 
     /// Puts a client into its slot, and registers its stream, so that its input is reported, and that it takes more of
     /// its answers.
-    fn add(&mut self, stream: TcpStream, slot: usize, now: Instant) -> io::Result<()> {
-        let client = Client::new(stream, now)?;
-        let fd = client.fd();
+    fn add(&mut self, stream: TcpStream, slot: usize, now: Instant) -> io::Result<ClientStream> {
+        let stream = ClientStream::new(stream)?;
+        let fd = stream.fd();
         let interest = Interest::READABLE | Interest::WRITABLE;
         self.registry
             .register(&mut SourceFd(&fd), token_of(slot), interest)?;
         if let Some(cell) = self.slots.get_mut(slot) {
-            *cell = Some(client);
+            *cell = Some(Client::new(now));
         }
-        Ok(())
+        Ok(stream)
     }
 
     /// Frees a slot.
@@ -151,12 +158,14 @@ impl<'a> Clients<'a> {
         }
     }
 
-    /// Closes the stream of the client in a slot, and frees the slot.
+    /// The client in a slot has left: the slot is free.
     pub(crate) fn close(&mut self, slot: usize) {
-        if let Some(cell) = self.slots.get_mut(slot) {
-            *cell = None;
+        let Some(cell) = self.slots.get_mut(slot) else {
+            return;
+        };
+        if cell.take().is_some() {
+            self.vacate(slot);
         }
-        self.vacate(slot);
     }
 
     /// A listener or the stream of a client has reported something.

@@ -8,6 +8,7 @@ mod farewell;
 mod forever;
 mod limits;
 mod linger;
+mod stream;
 mod turns;
 
 pub use forever::{Ports, serve_forever};

@@ -1,11 +1,14 @@
 //! The turns of a service without end. In each one every client that has sent something is heard, all that they asked is
 //! committed at once, and then all are answered.
 
+ghost use Rattle.std.specs.Prelude.{◌≡◌};
+
 use crate::checkpoints::Checkpoints;
 use crate::client::Stage;
 use crate::clients::Clients;
 use crate::limits::Limits;
 use crate::linger::Linger;
+use crate::stream::ClientStream;
 use act_disk::Disk;
 use act_store::MAX_ENTRIES;
 use client_loop::{MAX_REQUESTS, Service};
@@ -73,7 +76,7 @@ fn milliseconds<R: Clock>(rt: &R, before: u64) -> u64 {
 #[derive(Drop)]
 pub(crate) struct Turns<'a, D: Disk> {
     pub(crate) alloc: Global,
-    pub(crate) service: Service<D, Hooks, RunnerLines>,
+    pub(crate) service: Service<D, Hooks, RunnerLines, ClientStream>,
     pub(crate) clients: Clients<'a>,
     /// The clients of the view port, if there is one.
     views: Option<Views<'a>>,
@@ -106,11 +109,13 @@ impl<'a, D: Disk> Turns<'a, D> {
         alloc: Global,
         now: Instant,
         limits: Limits,
-        service: Service<D, Hooks, RunnerLines>,
+        service: Service<D, Hooks, RunnerLines, ClientStream>,
         clients: Clients<'a>,
         views: Option<Views<'a>>,
         buffer: Vec<u8>,
-    ) -> Turns<'a, D> {
+    ) -> Turns<'a, D>
+        ensures { result.service ≡ service }
+    {
         Turns {
             alloc,
             service,
@@ -198,7 +203,7 @@ impl<'a, D: Disk> Turns<'a, D> {
     pub(crate) fn accept(&mut self, number: usize) -> Result<(), Refusal> {
         for _ in 0..ACCEPTED {
             match self.clients.accept(number, self.now) {
-                Ok(Some(slot)) => self.join(slot),
+                Ok(Some((slot, stream))) => self.join(slot, stream),
                 Ok(None) => break,
                 Err(_) => return Err(Refusal::Numbered(Code::StreamFailed)),
             }
@@ -216,19 +221,17 @@ impl<'a, D: Disk> Turns<'a, D> {
         }
     }
 
-    /// Begins the session of the client in a slot.
-    fn join(&mut self, slot: usize) {
-        if self.service.has_slot(slot) {
-            self.service.join(self.alloc, slot);
+    /// Begins the session of the client in a slot. It has no place where another one still has the slot.
+    fn join(&mut self, slot: usize, stream: ClientStream) {
+        if !self.service.join(self.alloc, slot, stream) {
+            self.clients.close(slot);
         }
     }
 
     /// Closes the stream of the client in a slot, and frees the slot.
     pub(crate) fn close(&mut self, slot: usize) {
+        self.service.leave(slot);
         self.clients.close(slot);
-        if self.service.has_slot(slot) {
-            self.service.leave(slot);
-        }
     }
 
     /// Whether more clients may be heard before a commit: what was asked takes a small part of the room that is left for
@@ -264,7 +267,7 @@ impl<'a, D: Disk> Turns<'a, D> {
             }
             Stage::Owes => self.clients.speaks(slot),
             Stage::Leaves => {
-                let next = client.discard(&mut self.buffer, self.now);
+                let next = client.discard(&mut self.service, slot, &mut self.buffer, self.now);
                 self.go_on(slot, next);
             }
         }
@@ -272,9 +275,6 @@ impl<'a, D: Disk> Turns<'a, D> {
 
     /// Hears the next part of the session of the client in a slot. Returns how many bytes were read.
     pub(crate) fn hear_more(&mut self, slot: usize) -> usize {
-        if !self.service.has_slot(slot) {
-            return 0;
-        }
         let Some(client) = self.clients.get(slot) else {
             return 0;
         };
@@ -307,9 +307,6 @@ impl<'a, D: Disk> Turns<'a, D> {
 
     /// How many bytes of answers are withheld from the client in a slot.
     pub(crate) fn withheld(&self, slot: usize) -> usize {
-        if !self.service.has_slot(slot) {
-            return 0;
-        }
         match self.service.status(slot) {
             Some(status) => status.withheld,
             None => 0,
@@ -344,9 +341,6 @@ impl<'a, D: Disk> Turns<'a, D> {
 
     /// Sends the client in a slot its answers, as many as it takes.
     pub(crate) fn release(&mut self, slot: usize) {
-        if !self.service.has_slot(slot) {
-            return;
-        }
         let Some(client) = self.clients.get(slot) else {
             return;
         };
