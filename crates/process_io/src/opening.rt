@@ -3,7 +3,7 @@
 //! Neither needs permission to write it.
 
 ghost use Rattle.std.specs.Prelude.{◌≡◌, ◌↔◌, List, length, IfOk};
-ghost use Rattle.act_disk.specs.FileDisk.{faults_of, honest_of, len_of};
+ghost use Rattle.act_disk.specs.FileDisk.{faults_of, honest_of, len_of, seen_of};
 ghost use Rattle.act_disk.specs.SystemCalls.{FileCall, IsHonest};
 ghost use Rattle.process_io.specs.Answered.{IsReadFrom};
 
@@ -29,7 +29,7 @@ impl HeldStreams {
     /// The disk is honest if the file has as many bytes as `B` says, and it stays so as long as they are what is read.
     /// Promise (Disks): `acts` serves or copies a file as one that held any bytes, which only contracts name: the disk is honest exactly if
     ///   the file is as long as these, and lengths and reads that these answer keep it honest
-    /// By: `process_io::HeldStreams::{open_for_server, open_for_copying}`, `honest`, `reads`
+    /// By: `process_io::HeldStreams::{open_for_server, open_for_copying}`, `seen`, `honest`, `reads`
     /// Refusal (Sessions and programs): `process_io::HeldStreams::{open_for_server, create_for_server, open_for_reading}`
     /// When: 51: the file is or would be longer than the system lets a process write: T
     /// Afterwards: nothing was read or written, nor made: T
@@ -46,6 +46,7 @@ impl HeldStreams {
         S: Threads + Wait + Clock + Eprint + Sync,
     >(&self, rt: &R, system: &S, path: &'a str) -> Result<RealDisk<B>, ResourceFault<'a>>
         ensures faults { IfOk result (λ disk. faults_of disk ≡ 0) }
+        ensures seen { IfOk result (λ disk. seen_of disk ≡ B.Start.held) }
         ensures honest { IfOk result (λ disk. honest_of disk ↔ (len_of disk ≡ length B.Start.held)) }
         ensures reads { (calls : List FileCall) → IsReadFrom B.Start.held calls → IsHonest B.Start.held calls }
     {
@@ -103,6 +104,7 @@ impl HeldStreams {
         S: Threads + Wait + Clock + Eprint + Sync,
     >(&self, rt: &R, system: &S, source: &'a str) -> Result<RealDisk<B>, ResourceFault<'a>>
         ensures faults { IfOk result (λ disk. faults_of disk ≡ 0) }
+        ensures seen { IfOk result (λ disk. seen_of disk ≡ B.Start.held) }
         ensures honest { IfOk result (λ disk. honest_of disk ↔ (len_of disk ≡ length B.Start.held)) }
         ensures reads { (calls : List FileCall) → IsReadFrom B.Start.held calls → IsHonest B.Start.held calls }
     {
@@ -118,6 +120,7 @@ impl HeldStreams {
         path: &'a str,
     ) -> Result<RealDisk<B>, ResourceFault<'a>>
         ensures faults { IfOk result (λ disk. faults_of disk ≡ 0) }
+        ensures seen { IfOk result (λ disk. seen_of disk ≡ B.Start.held) }
         ensures honest { IfOk result (λ disk. honest_of disk ↔ (len_of disk ≡ length B.Start.held)) }
         ensures reads { (calls : List FileCall) → IsReadFrom B.Start.held calls → IsHonest B.Start.held calls }
     {
@@ -151,6 +154,7 @@ fn made_in_time<'a, B: Start, R: Files<File = File>, S: Threads + Wait + Clock +
 #[tactic(auto, using(crate::proofs::Opened::honest_at_first))]
 fn disk_over<B: Start>(file: File, path: &str) -> Result<RealDisk<B>, ResourceFault<'_>>
     ensures faults { IfOk result (λ disk. faults_of disk ≡ 0) }
+    ensures seen { IfOk result (λ disk. seen_of disk ≡ B.Start.held) }
     ensures honest { IfOk result (λ disk. honest_of disk ↔ (len_of disk ≡ length B.Start.held)) }
 {
     match FileDisk::opened(Ok(file)) {

@@ -1,6 +1,8 @@
 //! Serves a store: `acts serve`.
 
 ghost use Rattle.std.specs.Prelude.{◌≡◌, [], IfOk};
+ghost use Rattle.act_disk.specs.FileDisk.{honest_of};
+ghost use Rattle.act_store.specs.Images.{RecoversTo};
 
 use act_disk::Start;
 use act_store::Store;
@@ -21,14 +23,17 @@ use wf_value::Refusal;
 /// The longest file of a board, in bytes.
 const MAX_BOARD_FILE: u64 = 1_048_576;
 
-/// Opens the store in a file. No other server may use it.
+/// Opens the store in a file. No other server may use it. It begins at the table to which the file recovers.
+/// Promise (The program): `acts serve` begins at the table to which the bytes of the file recover, as it was opened, with an empty history
+/// By: `program_main::serving::open_store`, `base`, `fresh`; `service_forever::serve_forever`, `service_rounds::serve_rounds`: what they require
 fn open_store<
     'a,
     B: Start,
     R: Files<File = File> + AllocGlobal,
     S: Threads + Wait + Clock + Eprint + Sync,
 >(rt: &R, system: &S, file: &'a str) -> Result<Store<RealDisk<B>>, Failure<'a>>
-    ensures { IfOk result (λ store. store.history ≡ []) }
+    ensures fresh { IfOk result (λ store. store.history ≡ []) }
+    ensures base { IfOk result (λ store. honest_of store.disk → RecoversTo store.base B.Start.held) }
 {
     let streams = HeldStreams::hold(rt)?;
     let disk = streams.open_for_server::<B, R, S>(rt, system, file)?;
@@ -137,7 +142,8 @@ fn serve_on<
     serving: &Serving<'_>,
     out: &mut O,
 ) -> Result<(), Refusal>
-    requires { store.history ≡ [] }
+    requires fresh { store.history ≡ [] }
+    requires base { honest_of store.disk → RecoversTo store.base B.Start.held }
 {
     match serving.span {
         Span::Rounds(rounds) => {

@@ -1,6 +1,8 @@
 //! A service without end: one loop in one thread over all clients of both ports.
 
-ghost use Rattle.std.specs.Prelude.{◌≡◌, []};
+ghost use Rattle.std.specs.Prelude.{◌≡◌, [], IfOk};
+ghost use Rattle.act_store.specs.Images.{RecoversTo};
+ghost use Rattle.client_loop.specs.Service.{history_of};
 
 use crate::clients::Clients;
 use crate::farewell::part_with_all;
@@ -12,7 +14,7 @@ use client_loop::{Service, Slots};
 use client_ports::MAX_CLIENTS;
 use mio::{Events, Poll};
 use run_table::Table;
-use service_startup::{brought_up, tell_ready};
+use service_startup::{Opened, brought_up, tell_ready};
 use std::alloc::Global;
 use std::io;
 use std::io::{ErrorKind, Write};
@@ -234,7 +236,7 @@ fn take_turns<D: Disk, R: Wait + Clock, O: Write>(
     unreachable!()
 }
 
-/// The turns of a service over a store, before its first client.
+/// The turns of a service over a store, before its first client. Its history begins at the table of the store.
 fn first_turn<'a, D: Disk + Drop>(
     alloc: Global,
     now: Instant,
@@ -244,6 +246,9 @@ fn first_turn<'a, D: Disk + Drop>(
     views: Option<Views<'a>>,
 ) -> Result<Turns<'a, D>, Refusal>
     requires fresh { store.history ≡ [] }
+    ensures base { IfOk result (λ turns. turns.service.origin ≡ store.base) }
+    ensures fresh { IfOk result (λ turns. history_of turns.service ≡ []) }
+    ensures disk { IfOk result (λ turns. turns.service.store.disk ≡ store.disk) }
 {
     let buffer = vec![in alloc; 0u8; PIECE]?;
     let slots = Slots::new(alloc, MAX_CLIENTS, MAX_CLIENTS)?;
@@ -251,13 +256,17 @@ fn first_turn<'a, D: Disk + Drop>(
     Ok(Turns::new(alloc, now, limits, service, clients, views, buffer))
 }
 
-/// Takes turns until the service cannot go on. If that is since the device has failed, the clients are answered.
-fn serve<D: Disk, R: Wait + Clock, O: Write>(
+/// Takes turns until the service cannot go on. If that is since the device has failed, the clients are answered. The history begins at the
+/// table to which the bytes recover that were opened.
+fn serve<D: Opened, R: Wait + Clock, O: Write>(
     rt: &R,
     watch: &mut Watch,
     turns: &mut Turns<'_, D>,
     out: &mut O,
-) -> Result<(), Refusal> {
+) -> Result<(), Refusal>
+    requires fresh { history_of turns.old.service ≡ [] }
+    requires base { D.honest turns.old.service.store.disk → RecoversTo turns.old.service.origin D.opened }
+{
     tell_ready(out)?;
     let ended = take_turns(rt, watch, turns, out);
     if let Err(Refusal::Numbered(Code::DeviceFailed | Code::FailedEarlier)) = ended {
@@ -281,7 +290,7 @@ fn serve<D: Disk, R: Wait + Clock, O: Write>(
 /// When: 50: before the first client: T. 51, 52: the device failed: T. 61: a line can't be written, or a port can't go on: T
 /// Afterwards: the file has all acknowledged; after 51 and 52 clients that asked are answered 52: T
 /// By: none; `client_loop::Service::{commit, step, turn_over}`
-pub fn serve_forever<D: Disk + Drop, R: Wait + Clock + Net, O: Write>(
+pub fn serve_forever<D: Opened + Drop, R: Wait + Clock + Net, O: Write>(
     rt: &R,
     alloc: Global,
     store: Store<D>,
@@ -290,6 +299,7 @@ pub fn serve_forever<D: Disk + Drop, R: Wait + Clock + Net, O: Write>(
     out: &mut O,
 ) -> Result<(), Refusal>
     requires fresh { store.history ≡ [] }
+    requires base { D.honest store.disk → RecoversTo store.base D.opened }
 {
     let now = Instant::now(rt).map_err(|e| refusal_of(&e))?;
     let store = brought_up(alloc, store)?;

@@ -13,6 +13,7 @@ use wf_value::{Code, Refusal};
 /// Makes a whole checkpoint, which leaves the store in the second layout. The first refusal ends it.
 fn make_checkpoint<D: Disk>(alloc: Global, store: &mut Store<D>) -> Result<(), Refusal>
     ensures history { (store.new.history ≡ store.old.history) × (store.new.base ≡ store.old.base) }
+    ensures honest { D.honest store.new.disk → D.honest store.old.disk }
     ensures layout { OnOk result (store.new.layout ≡ layouts.Second) }
     ensures kept { OnErr result (store.new.layout ≡ store.old.layout) }
     ensures allowed { OnOk result (refusal_of_begin store.old ≡ None) }
@@ -39,6 +40,7 @@ fn make_checkpoint<D: Disk>(alloc: Global, store: &mut Store<D>) -> Result<(), R
 /// By: `passed`, `layout`
 pub fn brought_up<D: Disk + Drop>(alloc: Global, store: Store<D>) -> Result<Store<D>, Refusal>
     ensures same { IfOk result (λ up. (up.history ≡ store.history) × (up.base ≡ store.base)) }
+    ensures honest { IfOk result (λ up. D.honest up.disk → D.honest store.disk) }
     ensures layout { IfOk result (λ up. up.layout ≡ (if is_some (refusal_of_head store) then store.layout else layouts.Second)) }
     ensures passed { IfErr result (λ e. (e ≡ area_full) ⊎ (e ≡ last_counter) → ⊥) }
 {
