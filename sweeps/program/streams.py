@@ -248,6 +248,25 @@ def gives_back(acts, folder):
     return f'{len(readers)} clients that read nothing and {len(stays)} that stay after their end are disconnected'
 
 
+def lost_claim(acts, folder):
+    """The device fails as a claim is made durable: the runner is answered 52, and not with the lease that the device has lost."""
+    path = f'{folder}/store'
+    served.init(acts, path, AREA)
+    service = served.Forever(acts, path, limits=("trap '' XFSZ",))
+    expect(service.ready, 'a service is not ready')
+    hook, runner = service.hook(), service.runner()
+    expect_answers(hook, ((served.event('d1'), 'created 1'),))
+    expect_answers(runner, ((FETCH, UNKNOWN),))
+    resource.prlimit(service.child.pid, resource.RLIMIT_FSIZE, (1, 1))
+    runner.send(CLAIM)
+    found = runner.rest()
+    expect(found == (b'refused 52\n', True), 'the runner whose claim is lost gets', found)
+    ended = service.end(SECONDS)[:3]
+    expect(ended == (1, '', 'acts: refused 51\n'), 'a service whose device fails ends with', ended)
+    expect(served.show(acts, path) == ['run 1 1 queued - build:open(ready)'], 'the file of a service whose device has failed is another one')
+    return 'a claim that the device loses is answered 52'
+
+
 CREATED = 'HTTP/1.1 201 Created\r\nContent-Type: text/plain\r\nContent-Length: 10\r\n{}\r\ncreated 1\n'
 CLOSES = 'Connection: close\r\n'
 TOO_LONG = b'POST /events HTTP/1.1\r\nX-GitHub-Delivery: d2\r\nX-GitHub-Event: push\r\nContent-Length: 65537\r\n\r\n'
@@ -346,4 +365,4 @@ def failed_stream(acts, folder):
     return 'three rounds, of which one stream fails'
 
 
-CHECKS = silent, over_histories, resets, idle, every_slot, together, lost, full_sockets, gives_back, last_answers, stays, failed_stream
+CHECKS = silent, over_histories, resets, idle, every_slot, together, lost, lost_claim, full_sockets, gives_back, last_answers, stays, failed_stream
