@@ -172,11 +172,11 @@ impl Standing {
         !is_stopped(run) || (self.is_stopped && self.is_of_attempt(run))
     }
 
-    /// Whether run `r` made way for a newcomer of its group since it was told. `cancelled` are the runs that commands have cancelled since.
-    pub(crate) fn is_displaced(&self, cancelled: &[Number], r: usize, run: &Run) -> bool
-        ensures { result ≡ is_displaced cancelled.now self.now r run.now }
+    /// Whether a run made way for a newcomer of its group since it was told. `cancelled` are the ids of the runs that commands have cancelled since.
+    pub(crate) fn is_displaced(&self, cancelled: &[Number], run: &Run) -> bool
+        ensures { result ≡ is_displaced cancelled.now self.now run.now }
     {
-        !self.knows_stop(run) && !cancelled.iter().any(|id| r + 1 == id.get() as usize)
+        !self.knows_stop(run) && !cancelled.iter().any(|id| run.id().get() == id.get())
     }
 
     /// How the run stands, if it does not stand as it was told, or these legs do not.
