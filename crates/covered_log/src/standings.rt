@@ -188,7 +188,7 @@ impl Standing {
     ) -> Result<Option<Standing>, AllocError>
         ensures { IfOk result (λ now. unwrap_or now self.now
             ≡ (if is_same self.now run.now && (knows_stop self.now run.now && nat_eq (length moved.now) 0)
-                then self.now else standing_of run.now)) }
+            then self.now else standing_of run.now)) }
     {
         if self.is_same(run) && self.knows_stop(run) && moved.is_empty() {
             return Ok(None);
