@@ -113,6 +113,13 @@ fn is_same_leg(told: &Leg, leg: &Leg) -> bool
     leg_word(told.phase) == leg_word(leg.phase) && is_same_lease(told.lease, leg.lease)
 }
 
+/// Whether the id is one of these.
+fn has_id(ids: &[Number], id: Number) -> bool
+    ensures { result ≡ list_any (nat_eq id) ids.now }
+{
+    ids.iter().any(|one| id.get() == one.get())
+}
+
 impl Standing {
     /// A run of which nothing was told.
     pub(crate) fn untold(alloc: Global) -> Standing
@@ -176,7 +183,7 @@ impl Standing {
     pub(crate) fn is_displaced(&self, cancelled: &[Number], run: &Run) -> bool
         ensures { result ≡ is_displaced cancelled.now self.now run.now }
     {
-        !self.knows_stop(run) && !cancelled.iter().any(|id| run.id().get() == id.get())
+        !self.knows_stop(run) && !has_id(cancelled, run.id())
     }
 
     /// How the run stands, if it does not stand as it was told, or these legs do not.
