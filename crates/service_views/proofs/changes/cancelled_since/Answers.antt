@@ -3,13 +3,13 @@ use Rattle.std.specs.Prelude.{None, Some, length, slice_get}
 use Rattle.std.specs.Option.{option_copied}
 use Rattle.service_views.specs.Following.{cancelled_in}
 use Rattle.service_views.proofs.FollowingLemmas.{cancelled_next, found_at, none_is_past}
-use Rattle.service_views.proofs.changes.cancelled_since.Goals.{in-Some, in_default}
+use Rattle.service_views.proofs.changes.cancelled_since.Goals.{in-Some+in_ok-push_cancelled, in_default}
 use Rattle.service_views.proofs.changes.cancelled_since.Goals as goal
 
 pub loop-index-preserved : goal.loop-index-preserved
 loop-index-preserved g c =
     elim c.match-entry.branch [
-      | in-Some w ↦
+      | in-Some+in_ok-push_cancelled w ↦
           let found : slice_get c.args.store.now.history c.loop-index.index ≡ Some w.in-Some.entry.now =
           sym (found_at c.args.store.now.history c.loop-index.index (option_copied c.entry.result) c.entry.ensures)
           ∙ ap option_copied w.in-Some.is in

@@ -7,5 +7,5 @@ use Rattle.service_views.proofs.changes.Changes.look_since.Goals as goal
 pub returns-clause-told : goal.returns-clause-told
 returns-clause-told g c =
     tells_same c.args.at c.in-Ok.cancelled.items (cancelled_in (drop c.args.taken (take c.args.store.now.covered c.args.store.now.history)))
-    c.table.result.now (table_of c.args.store.now) c.args.self.now.log.changes c.args.self.now c.look_new.new.self c.in-Ok.ensures c.table.ensures
+    c.table-2.result.now (table_of c.args.store.now) c.args.self.now.log.changes c.args.self.now c.look_new.new.self c.in-Ok.ensures c.table-2.ensures
     c.look_new.ensures.told
