@@ -13,12 +13,13 @@ loop-index-preserved g c =
           let found : slice_get c.args.store.now.history c.loop-index.index ≡ Some w.in-Some.entry.now =
           sym (found_at c.args.store.now.history c.loop-index.index (option_copied c.entry.result) c.entry.ensures)
           ∙ ap option_copied w.in-Some.is in
-          record {
+          rw w.runs-is
+          (record {
             runs = w.in_ok-push_cancelled.ensures
                 ∙ ap (λ (runs : List ℕ). runs ++ cancelled_in (w.in-Some.entry.now ∷ [])) c.loop-index.invariant.runs
                 ∙ cancelled_next c.args.store.now.history c.args.taken c.loop-index.index w.in-Some.entry.now c.loop-index.auto.index found;
             stays = λ less. omega (arith, less, c.loop-index.auto.index, c.loop-index-test.true, c.covered-index-end.ensures.value);
-          }
+          })
       | in_default w ↦
           let none : slice_get c.args.store.now.history c.loop-index.index ≡ None =
           sym (found_at c.args.store.now.history c.loop-index.index (option_copied c.entry.result) c.entry.ensures)
