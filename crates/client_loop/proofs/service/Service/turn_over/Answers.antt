@@ -87,5 +87,8 @@ returns-clause-turned g c =
     (ap (λ (t : StoreState g.row.D.Denot). record s { store = t; past = c.with-past.result }) c.in_ok-turn_over.ensures.turned
     ∙ ap (λ (l : List Entry). record s { store = turned_over s.store; past = l }) c.with-past.ensures)
 
-pub returns-in_err-turn_over-clause-cause : goal.returns-in_err-turn_over-clause-cause
-returns-in_err-turn_over-clause-cause g c = ?
+pub returns-in_err-turn_over-clause-unchanged : goal.returns-in_err-turn_over-clause-unchanged
+returns-in_err-turn_over-clause-unchanged g c =
+    let f = c.self.inside in
+    let s : ServiceState g.row.D.Denot = record { store = f.store; origin = f.first.value.base; past = f.past; slots = f.slots } in
+    ap (λ (t : StoreState g.row.D.Denot). record s { store = t }) c.in_err-turn_over.ensures.unchanged ∙ c.self.view_is
