@@ -329,23 +329,23 @@ module _ {D : Type 0} (p : ℕ → Conversation → Type 0) where
   pub silent_on : (old new : ServiceState D) (next : Event) → old.store.failed ≡ true → Happens p old next new → Silent old new
   silent_on old new (event.Joins i) failed (inl same) = silent_same old new failed same
   silent_on old new (event.Joins i) failed (inr joins) = silent_slots old new failed joins.1.is
-  silent_on old new (event.Hears i) failed (inl same) = silent_same old new failed same
+  silent_on old new (event.Hears i) failed (inl same) = silent_same old new failed same.0
   silent_on old new (event.Hears i) failed (inr hears) = silent_hears i hears.0 old new failed hears.1
-  silent_on old new (event.GoesOn i) failed (inl same) = silent_same old new failed same
+  silent_on old new (event.GoesOn i) failed (inl same) = silent_same old new failed same.0
   silent_on old new (event.GoesOn i) failed (inr hears) = silent_hears i [] old new failed hears
-  silent_on old new (event.Sends i) failed (inl same) = silent_same old new failed same
+  silent_on old new (event.Sends i) failed (inl same) = silent_same old new failed same.0
   silent_on old new (event.Sends i) failed (inr sends) = silent_slots old new failed sends.1.is
-  silent_on old new (event.Discards i) failed (inl same) = silent_same old new failed same
+  silent_on old new (event.Discards i) failed (inl same) = silent_same old new failed same.0
   silent_on old new (event.Discards i) failed (inr discards) = silent_slots old new failed discards.is
-  silent_on old new (event.Leaves i) failed (inl same) = silent_same old new failed same
+  silent_on old new (event.Leaves i) failed (inl same) = silent_same old new failed same.0
   silent_on old new (event.Leaves i) failed (inr leaves) = silent_slots old new failed leaves.is
-  silent_on old new (event.Parts i) failed (inl same) = silent_same old new failed same
+  silent_on old new (event.Parts i) failed (inl same) = silent_same old new failed same.0
   silent_on old new (event.Parts i) failed (inr parts) = silent_slots old new failed parts.1.is
-  silent_on old new event.Commits failed quiet = silent_same old new failed (quiet.failed failed)
-  silent_on old new event.Begins failed quiet = silent_same old new failed (quiet.failed failed)
-  silent_on old new event.Slices failed quiet = silent_same old new failed (quiet.failed failed)
-  silent_on old new event.Finishes failed quiet = silent_same old new failed (quiet.failed failed)
-  silent_on old new event.TurnsOver failed quiet = silent_same old new failed (quiet.failed failed)
+  silent_on old new event.Commits failed quiet = silent_same old new failed (quiet.0.failed failed)
+  silent_on old new event.Begins failed quiet = silent_same old new failed (quiet.0.failed failed)
+  silent_on old new event.Slices failed quiet = silent_same old new failed (quiet.0.failed failed)
+  silent_on old new event.Finishes failed quiet = silent_same old new failed (quiet.0.failed failed)
+  silent_on old new event.TurnsOver failed quiet = silent_same old new failed (quiet.0.failed failed)
 
   pub stuck_on : (index : ℕ) (old new : ServiceState D) (next : Event) → IsStuck index old → Happens p old next new → IsStuck index new
   stuck_on index old new next stuck happens =
@@ -358,5 +358,5 @@ module _ {D : Type 0} (p : ℕ → Conversation → Type 0) where
       }
 
   pub stuck_silent : (index : ℕ) (old new : ServiceState D) → IsStuck index old → Happens p old (event.Sends index) new → new ≡ old
-  stuck_silent index old new stuck (inl same) = same
+  stuck_silent index old new stuck (inl same) = same.0
   stuck_silent index old new stuck (inr sends) = absurd (stuck.pending sends.1.covered)

@@ -1,3 +1,4 @@
+mod EventsHappen
 mod Happening
 mod HeldPieces
 mod Machine
