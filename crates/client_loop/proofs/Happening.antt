@@ -1,7 +1,7 @@
 -- Events in a row.
-use Rattle.std.proofs.Common.{◌≡◌, ◌↔◌, ⊎_elim, ℕ, ◌+◌, ◌≤◌, true, false, Bool, List, [], ◌∷◌, ◌++◌, length, take, refl, sym, ap, subst, ◌∙◌, inl, inr, append-nil, append_assoc, length-append, arith, Ok, Err}
+use Rattle.std.proofs.Common.{◌≡◌, ◌↔◌, ⊎_elim, ℕ, ◌+◌, ◌<◌, ◌≤◌, get_or, true, false, Bool, List, [], ◌∷◌, ◌++◌, length, take, refl, sym, ap, subst, ◌∙◌, inl, inr, append-nil, append_assoc, length-append, arith, Ok, Err}
 use Rattle.std.specs.Prelude.{drop, IfNone, IfSome, Option, Some, None, if◌then◌else◌}
-use Rattle.std.proofs.lemmas.List.{length-set, take-append-le}
+use Rattle.std.proofs.lemmas.List.{length-set, take-append-le, take_more}
 use Rattle.table_model.specs.TableState.{TableState}
 use Rattle.definitions.specs.Disk.{EachSince}
 use Rattle.act_disk.proofs.Moments.{started, weakened, joined}
@@ -179,6 +179,13 @@ module _ {D : Type 0} where
       (new, subst (λ (s : ServiceState D). Happens p s next new) same happens, subst (λ (s : ServiceState D). during s new) same so, refl)
   plays_more during p old mid new (e ∷ es) next plays happens so =
       (plays.0, plays.1, plays.2, plays_more during p plays.0 mid new es next plays.3 happens so)
+
+  pub plays_next : (during : ServiceState D → ServiceState D → Type 0) (p : ℕ → Conversation → Type 0) (old mid new : ServiceState D) (events : List Event)
+      (i : ℕ) (next : Event) → i < length events → Plays during p old (take i events) mid → Happens p mid (get_or events i next) new → during mid new
+      → Plays during p old (take (i + 1) events) new
+  plays_next during p old mid new events i next less plays happens so =
+      subst (λ (es : List Event). Plays during p old es new) (sym (take_more events i next less))
+      (plays_more during p old mid new (take i events) (get_or events i next) plays happens so)
 
 -- ---- each call
 

@@ -1,4 +1,3 @@
-mod EventsHappen
 mod Happening
 mod HeldPieces
 mod Machine

@@ -1,6 +1,6 @@
 -- Slots of two ports under one numbering.
 use Rattle.std.proofs.Common.{◌≡◌, ℕ, ◌+◌, ◌-◌, ◌<◌, ◌≤◌, Bool, true, false, List, [], ◌∷◌, ◌++◌, length, get_or, refl, sym, ap, subst, ◌∙◌, arith, zero, suc, length-append}
-use Rattle.std.specs.Prelude.{◌↔◌, ◌≢◌, ◌&&◌, IfNone, IfSome, IsTrue, is_some, nat_lt, not, option_map, replicate, slice_get, slice_set, Option, Some, None}
+use Rattle.std.specs.Prelude.{◌↔◌, ◌≢◌, ◌&&◌, IfNone, IfSome, IsSome, IsTrue, is_some, nat_lt, not, option_map, replicate, slice_get, slice_set, Option, Some, None}
 use Rattle.std.specs.Option.{option_map_or}
 use Rattle.std.proofs.lemmas.Bool.Decides.{nat_tests}
 use Rattle.std.proofs.lemmas.List.{length-set, set-append_left, set-append_right}
@@ -162,21 +162,39 @@ module _ {F G : Type 0} (R : List ℕ → (Conversation → Type 0) → SlotStat
 
 -- ---- of the client that has a slot
 
+pub at_hook : (X : Option ClientState → Type 0) (hooks runners : List SlotState) (o : SlotsState) → both hooks runners ≡ o → (index : ℕ) → index < length hooks
+    → (was : SlotState) → was ≡ get_or hooks index was → X was.client → X (client_in (slice_get o.all index))
+at_hook X hooks runners o view index less was read so =
+    subst (λ (s : SlotsState). X (client_in (slice_get s.all index))) view
+    (subst (λ (x : Option SlotState). X (client_in x))
+    (sym (get_left hooks runners index was (slice_get_read hooks (length hooks) index was refl less read))) so)
+
+pub at_runner : (X : Option ClientState → Type 0) (hooks runners : List SlotState) (o : SlotsState) → both hooks runners ≡ o → (index : ℕ) → index < length o.all
+    → (n : ℕ) → n ≡ length hooks → n ≤ index → (was : SlotState) → was ≡ get_or runners (index - n) was → X was.client
+    → X (client_in (slice_get o.all index))
+at_runner X hooks runners o view index below n count least was read so =
+    let at : slice_get runners (index - n) ≡ Some was =
+    slice_get_read runners (length runners) (index - n) was refl (runner_below hooks runners o view index below n count least) read in
+    subst (λ (s : SlotsState). X (client_in (slice_get s.all index))) view
+    (subst (λ (x : Option SlotState). X (client_in x))
+    (sym (get_right hooks runners index (index - n) was (omega (arith, count, least)) at)) so)
+
 pub client_hook : (P : ClientState → Type 0) (hooks runners : List SlotState) (o : SlotsState) → both hooks runners ≡ o → (index : ℕ) → index < length hooks
     → (was : SlotState) → was ≡ get_or hooks index was → IfSome was.client P → OfClient P o index
-client_hook P hooks runners o view index less was read so =
-    subst (λ (s : SlotsState). OfClient P s index) view
-    (subst (λ (x : Option SlotState). IfSome (client_in x) P)
-    (sym (get_left hooks runners index was (slice_get_read hooks (length hooks) index was refl less read))) so)
+client_hook P hooks runners o view index less was read so = at_hook (λ (x : Option ClientState). IfSome x P) hooks runners o view index less was read so
 
 pub client_runner : (P : ClientState → Type 0) (hooks runners : List SlotState) (o : SlotsState) → both hooks runners ≡ o → (index : ℕ) → index < length o.all
     → (n : ℕ) → n ≡ length hooks → n ≤ index → (was : SlotState) → was ≡ get_or runners (index - n) was → IfSome was.client P → OfClient P o index
 client_runner P hooks runners o view index below n count least was read so =
-    let at : slice_get runners (index - n) ≡ Some was =
-    slice_get_read runners (length runners) (index - n) was refl (runner_below hooks runners o view index below n count least) read in
-    subst (λ (s : SlotsState). OfClient P s index) view
-    (subst (λ (x : Option SlotState). IfSome (client_in x) P)
-    (sym (get_right hooks runners index (index - n) was (omega (arith, count, least)) at)) so)
+    at_runner (λ (x : Option ClientState). IfSome x P) hooks runners o view index below n count least was read so
+
+-- a client that has a slot has a status
+abbrev pub HasStatus : Option ClientState → Type 0
+HasStatus o = IsSome (option_map status_of o)
+
+pub has_status : (o : Option ClientState) → IsSome o → HasStatus o
+has_status None is = cc
+has_status (Some c) is = refl
 
 get_none : (xs : List SlotState) (i : ℕ) → length xs ≤ i → slice_get xs i ≡ None
 get_none [] i least = refl

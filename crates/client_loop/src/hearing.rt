@@ -35,12 +35,7 @@ impl<D: Disk, P: Protocol, Q: Protocol, S: Stream> Service<D, P, Q, S> {
     /// By: `client_loop::Service::hear_from`, `awaited`, `heard`, `none`
     /// Promise (A service in one thread): Nothing is read only where there is no client that may be read from, or its stream gives nothing
     /// By: `client_loop::Service::hear_from`, `unheard` (`IsUnheard`); `client_loop::Stream`, `silent`
-    pub fn hear_from(
-        &mut self,
-        alloc: Global,
-        index: usize,
-        buffer: &mut Vec<u8>,
-    ) -> Option<usize>
+    pub fn hear_from(&mut self, alloc: Global, index: usize, buffer: &mut Vec<u8>) -> Option<usize>
         ensures awaited { IfSome result (λ n. IsSomeAnd (status_at self.old.slots index) (λ s. awaits_input s ≡ true)) }
         ensures bound { IfSome result (λ n. n ≤ vec_len buffer.new) }
         ensures heard { IfSome result (λ n. ServiceHears (by_port self.old.slots.hooks P.rules Q.rules) index (take n buffer.new.items) self.old self.new) }

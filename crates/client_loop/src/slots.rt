@@ -47,11 +47,7 @@ fn free_slots<P: Protocol, S: Stream>(
 
 impl<P: Protocol, Q: Protocol, S: Stream> Slots<P, Q, S> {
     /// So many slots of each port that no client has had.
-    pub fn new(
-        alloc: Global,
-        hooks: usize,
-        runners: usize,
-    ) -> Result<Slots<P, Q, S>, AllocError>
+    pub fn new(alloc: Global, hooks: usize, runners: usize) -> Result<Slots<P, Q, S>, AllocError>
         ensures hooks { IfOk result (λ slots. slots.hooks ≡ hooks) }
         ensures all { IfOk result (λ slots. length slots.all ≡ hooks + runners) }
         ensures free { IfOk result (λ slots. AreFree slots.all) }

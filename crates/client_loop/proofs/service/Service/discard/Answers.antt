@@ -1,6 +1,6 @@
 use Rattle.std.proofs.Common.{ℕ, refl, rules, subst}
 use Rattle.std.specs.Prelude.{IfNone, IfSome}
-use Rattle.client_loop.specs.Clients.{IsDrained, SlotDiscards, SlotState}
+use Rattle.client_loop.specs.Clients.{IsDrained, SlotDiscards}
 use Rattle.client_loop.specs.Events.{Survives}
 use Rattle.client_loop.specs.Service.{ServiceDiscards, ServiceState}
 use Rattle.client_loop.proofs.Happening.{changes_some, stays}
@@ -48,7 +48,8 @@ returns-then-not-has-clause-survives g c =
 
 pub returns-then-not-has-clause-silent : goal.returns-then-not-has-clause-silent
 returns-then-not-has-clause-silent g c =
-    no_slot IsDrained c.args.self.now.slots c.args.index c.has.result c.has.ensures (search rules)
+    subst (λ (o : ServiceState g.row.D.Denot). OfClient IsDrained o.slots c.args.index) c.self.view_is
+    (no_slot IsDrained c.self.inside.slots c.args.index c.has.result c.has.ensures (search rules))
 
 pub returns-clause-silent : goal.returns-clause-silent
 returns-clause-silent g c =

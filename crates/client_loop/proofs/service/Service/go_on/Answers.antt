@@ -1,4 +1,4 @@
-use Rattle.std.proofs.Common.{ℕ, [], ◌<◌, length, refl, rules, subst, sym}
+use Rattle.std.proofs.Common.{ℕ, [], refl, rules, subst}
 use Rattle.client_loop.specs.Events.{Survives}
 use Rattle.client_loop.specs.Service.{ServiceHears, ServiceState}
 use Rattle.client_loop.proofs.Happening.{hears_or_not, stays}
@@ -14,7 +14,7 @@ invariant_of-self g c =
     let s : ServiceState g.row.D.Denot = record { store = f.store; origin = f.first.value.base; past = f.past; slots = f.slots } in
     service_hears_or_not (λ (hooks : ℕ). by_port hooks g.P.Protocol.rules g.Q.Protocol.rules) s c.self.invariant
     c.covered-covered.ensures.within c.args.index c.go_on.new.store c.go_on.new.self
-    (subst (λ (o : ServiceState g.row.D.Denot). c.args.index < length o.slots.all) (sym c.self.view_is) (c.has.ensures.0 (search rules)))
+    (c.has.ensures.0 (search rules))
     [] c.go_on.result c.go_on.ensures.heard c.go_on.ensures.same
 
 pub returns-clause-heard : goal.returns-clause-heard
@@ -49,7 +49,8 @@ returns-then-not-has-clause-survives g c =
 
 pub returns-then-not-has-clause-over : goal.returns-then-not-has-clause-over
 returns-then-not-has-clause-over g c = λ so.
-    no_slot IsOver c.args.self.now.slots c.args.index c.has.result c.has.ensures (search rules)
+    subst (λ (o : ServiceState g.row.D.Denot). OfClient IsOver o.slots c.args.index) c.self.view_is
+    (no_slot IsOver c.self.inside.slots c.args.index c.has.result c.has.ensures (search rules))
 
 pub returns-clause-over : goal.returns-clause-over
 returns-clause-over g c = λ so.

@@ -67,7 +67,8 @@ returns-then-not-may_send-clause-survives g c =
 
 pub returns-then-not-has-clause-unsent : goal.returns-then-not-has-clause-unsent
 returns-then-not-has-clause-unsent g c = λ _.
-    no_slot IsParted c.args.self.now.slots c.args.index c.has.result c.has.ensures (search rules)
+    subst (λ (o : ServiceState g.row.D.Denot). OfClient IsParted o.slots c.args.index) c.self.view_is
+    (no_slot IsParted c.self.inside.slots c.args.index c.has.result c.has.ensures (search rules))
 
 pub returns-then-not-may_send-clause-unsent : goal.returns-then-not-may_send-clause-unsent
 returns-then-not-may_send-clause-unsent g c = λ none.

@@ -1,4 +1,4 @@
-use Rattle.std.proofs.Common.{◌-◌, ◌<◌, ℕ, arith, length}
+use Rattle.std.proofs.Common.{◌-◌, ℕ, arith}
 use Rattle.client_loop.specs.Clients.{IsDrained, SlotDiscards, SlotState}
 use Rattle.client_loop.specs.Conversation.{Conversation}
 use Rattle.client_loop.proofs.PortSlots.{client_hook, client_runner, none_then, runner_below, same_hook, same_runner, some_hook, some_runner}

@@ -1,4 +1,4 @@
-use Rattle.std.proofs.Common.{[], ◌-◌, ◌<◌, arith, length}
+use Rattle.std.proofs.Common.{[], ◌-◌, arith}
 use Rattle.client_loop.specs.Clients.{IsOver, SlotHears, SlotState}
 use Rattle.client_loop.specs.Conversation.{Conversation}
 use Rattle.client_loop.proofs.PortSlots.{client_hook, client_runner, changes_hook, changes_runner, runner_below, same_hook, same_runner}

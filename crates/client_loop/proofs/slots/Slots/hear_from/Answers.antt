@@ -1,4 +1,4 @@
-use Rattle.std.proofs.Common.{◌-◌, ◌<◌, ◌≡◌, ℕ, arith, length, take}
+use Rattle.std.proofs.Common.{◌-◌, ℕ, arith, take}
 use Rattle.client_loop.specs.Clients.{IsSilent, SlotHears, SlotState}
 use Rattle.client_loop.specs.Conversation.{Conversation}
 use Rattle.client_loop.proofs.PortSlots.{client_hook, client_runner, none_then, runner_below, same_hook, same_runner, some_hook, some_runner}

@@ -1,4 +1,4 @@
-use Rattle.std.proofs.Common.{◌-◌, ◌<◌, ℕ, List, arith, length}
+use Rattle.std.proofs.Common.{◌-◌, ℕ, List, arith}
 use Rattle.client_loop.specs.Clients.{OwesNothing, SlotParts, SlotState}
 use Rattle.client_loop.specs.Conversation.{Conversation}
 use Rattle.client_loop.proofs.PortSlots.{client_hook, client_runner, runner_below, same_hook, same_runner, with_hook, with_runner}
