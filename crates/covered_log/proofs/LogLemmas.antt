@@ -27,7 +27,7 @@ entries_of-push [] (Entered at command reply) = refl
 entries_of-push [] (Begins at runs seen) = refl
 entries_of-push [] (Stands at id run) = refl
 entries_of-push [] (LegStands at news) = refl
-entries_of-push [] (Displaced at runs id run) = refl
+entries_of-push [] (Displaced at runs r run) = refl
 entries_of-push [] Missed = refl
 entries_of-push (d ∷ cs) c =
     grind (arith, entries_of-push cs c, length-append (entries_in d) (entries_of cs), length-append (entries_in d) (entries_of (cs ++ c ∷ [])))
@@ -37,7 +37,7 @@ entries_in-few (Entered at command reply) = omega arith
 entries_in-few (Begins at runs seen) = omega arith
 entries_in-few (Stands at id run) = omega arith
 entries_in-few (LegStands at news) = omega arith
-entries_in-few (Displaced at runs id run) = omega arith
+entries_in-few (Displaced at runs r run) = omega arith
 entries_in-few Missed = omega arith
 
 -- there are no more entries than changes

@@ -124,7 +124,7 @@ all_is_told : (at : ℕ) (cancelled : List ℕ) (names : NamesState) (t : TableS
 all_is_told at cancelled names t s r run told =
     ap (λ (b : Bool). (if b then [] else moved_run at t s r run ∷ []) ++ displaced_news at cancelled t s r run ++ of_legs at (moved_legs names t s r run))
     told.same
-    ∙ ap (λ (b : Bool). (if not b && not (list_any (nat_eq (r + 1)) cancelled) then Displaced at t.runs (r + 1) run ∷ [] else [])
+    ∙ ap (λ (b : Bool). (if not b && not (list_any (nat_eq run.id) cancelled) then Displaced at t.runs r run ∷ [] else [])
     ++ of_legs at (moved_legs names t s r run)) told.stop
     ∙ ap (of_legs at) told.legs
 

@@ -1,12 +1,11 @@
 -- The line of a run that made way for a newcomer of its concurrency group. GitHub Docs, "Control the concurrency of workflows and jobs". The
 -- format is defined by this project.
-use Rattle.std.specs.Prelude.{ℕ, ◌+◌, ◌-◌, List, ◌++◌, codes, decimal, Option, Some, None, option_and_then, if◌then◌else◌}
+use Rattle.std.specs.Prelude.{ℕ, List, ◌++◌, codes, decimal, Option, Some, None, option_and_then, if◌then◌else◌}
 use Rattle.std.specs.Option.{option_map_or, option_or}
 use Rattle.group_name.specs.Group.{Group}
 use Rattle.table_model.specs.GroupLaw.{same_holder}
 use Rattle.table_model.specs.Groups.{group_at, group_state}
-use Rattle.table_model.specs.Holders.{run_of}
-use Rattle.table_model.specs.LegContext.{job_id}
+use Rattle.table_model.specs.LegContext.{id_at, job_id}
 use Rattle.table_model.specs.Runs.{RunState, run_at}
 use Rattle.table_model.specs.declared.holder.Holder.{Holder}
 use Rattle.table_model.specs.declared.holder.Holder.TheVariants.{Run, Leg}
@@ -35,17 +34,17 @@ attempt_at runs r = option_map_or (λ run. run.attempt) (run_at runs r) 0
 -- a run, and a leg of it, with its attempt
 abbrev pub holder_json : List RunState → Holder → List ℕ
 holder_json runs (Run r) =
-    codes "{\"run\":" ++ decimal (r + 1) ++ codes ",\"attempt\":" ++ decimal (attempt_at runs r) ++ codes ",\"job\":null,\"leg\":null}"
+    codes "{\"run\":" ++ decimal (id_at runs r) ++ codes ",\"attempt\":" ++ decimal (attempt_at runs r) ++ codes ",\"job\":null,\"leg\":null}"
 holder_json runs (Leg p) =
-    codes "{\"run\":" ++ decimal (p.run + 1) ++ codes ",\"attempt\":" ++ decimal (attempt_at runs p.run)
+    codes "{\"run\":" ++ decimal (id_at runs p.run) ++ codes ",\"attempt\":" ++ decimal (attempt_at runs p.run)
     ++ codes ",\"job\":" ++ quoted (job_id runs p.run p.job) ++ codes ",\"leg\":" ++ decimal p.leg ++ codes "}"
 
 abbrev pub holder_or_null : List RunState → Option Holder → List ℕ
 holder_or_null runs None = codes "null"
 holder_or_null runs (Some h) = holder_json runs h
 
--- a run with its id, as it is after the entries up to a place, and who comes next in its group
+-- run `r`, as it is after the entries up to a place, and who comes next in its group
 unfoldable pub displaced_line : ℕ → ℕ → List RunState → ℕ → RunState → List ℕ
-displaced_line place at runs id run =
-    line (codes "{\"after\":" ++ decimal place ++ codes ",\"run\":" ++ decimal id ++ codes ",\"attempt\":" ++ decimal run.attempt
-    ++ codes ",\"displaced_by\":" ++ holder_or_null runs (next_after runs (Run (id - 1))) ++ codes ",\"at\":" ++ decimal at ++ codes "}")
+displaced_line place at runs r run =
+    line (codes "{\"after\":" ++ decimal place ++ codes ",\"run\":" ++ decimal run.id ++ codes ",\"attempt\":" ++ decimal run.attempt
+    ++ codes ",\"displaced_by\":" ++ holder_or_null runs (next_after runs (Run r)) ++ codes ",\"at\":" ++ decimal at ++ codes "}")

@@ -10,8 +10,8 @@ use Rattle.table_views.specs.declared.told_legs.LegNews.{LegNews}
 use Rattle.covered_log.specs.Displaced.{displaced_line}
 
 -- What a line tells, and the time of its commit: an entry; a run of these that begins an attempt; a run with its id, or a leg, as it stands
--- after the entries before; a run of these, with its id, that made way for a newcomer of its group. A missed change is one of runs and legs that
--- there was no memory to tell: it has no line, and is counted as one.
+-- after the entries before; run `r` of these, which made way for a newcomer of its group. A missed change is one of runs and legs that there was
+-- no memory to tell: it has no line, and is counted as one.
 pub data Change : Type 0 where
   Entered : ℕ → Command → Reply → Change
   Begins : ℕ → List RunState → Seen → Change
@@ -26,7 +26,7 @@ entries_in (Entered at command reply) = (command, reply) ∷ []
 entries_in (Begins at runs seen) = []
 entries_in (Stands at id run) = []
 entries_in (LegStands at news) = []
-entries_in (Displaced at runs id run) = []
+entries_in (Displaced at runs r run) = []
 entries_in Missed = []
 
 abbrev pub entries_of : List Change → List (Command × Reply)
@@ -38,7 +38,7 @@ line_of place (Entered at command reply) = entry_line (place + 1) at command rep
 line_of place (Begins at runs seen) = attempt_line place at runs seen
 line_of place (Stands at id run) = run_change_line place at id run
 line_of place (LegStands at news) = leg_change_line place at news
-line_of place (Displaced at runs id run) = displaced_line place at runs id run
+line_of place (Displaced at runs r run) = displaced_line place at runs r run
 line_of place Missed = []
 
 -- the lines of changes after so many entries

@@ -111,11 +111,11 @@ abbrev pub moved_run : ℕ → TableState → Standing → ℕ → RunState → 
 moved_run at t s r run = if s.attempt == run.attempt then Stands at (r + 1) run else beginning at t r run
 
 -- It made way for a newcomer of its group: it was stopped since it was told, and by none of these commands, which cancelled runs with these ids.
-abbrev pub is_displaced : List ℕ → Standing → ℕ → RunState → Bool
-is_displaced cancelled s r run = not (knows_stop s run) && not (list_any (nat_eq (r + 1)) cancelled)
+abbrev pub is_displaced : List ℕ → Standing → RunState → Bool
+is_displaced cancelled s run = not (knows_stop s run) && not (list_any (nat_eq run.id) cancelled)
 
 abbrev pub displaced_news : ℕ → List ℕ → TableState → Standing → ℕ → RunState → List Change
-displaced_news at cancelled t s r run = if is_displaced cancelled s r run then Displaced at t.runs (r + 1) run ∷ [] else []
+displaced_news at cancelled t s r run = if is_displaced cancelled s run then Displaced at t.runs r run ∷ [] else []
 
 abbrev pub of_legs : ℕ → List LegNews → List Change
 of_legs at legs = map (λ news. LegStands at news) legs

@@ -1,17 +1,14 @@
 //! The line of a run that made way for a newcomer of its concurrency group.
 
-ghost use Rattle.std.specs.Prelude.{◌≡◌, ◌++◌, ◌<◌, IfOk, IfSome, Ok, codes, decimal, option_map, string_bytes};
-ghost use Rattle.definitions.specs.Limits.{max_runs};
+ghost use Rattle.std.specs.Prelude.{◌≡◌, ◌++◌, IfOk, Ok, codes, decimal, option_map, string_bytes};
 ghost use Rattle.wf_value.specs.Gives.{Gives};
-ghost use Rattle.table_model.specs.Holders.{run_of};
-ghost use Rattle.table_model.specs.LegContext.{job_id};
+ghost use Rattle.table_model.specs.LegContext.{id_at, job_id};
 ghost use Rattle.table_model.specs.declared.holder.Holder.TheVariants as held;
 ghost use Rattle.table_views.specs.Texts.{line, quoted};
 ghost use Rattle.covered_log.specs.Displaced.{attempt_at, displaced_line, holder_json, holder_or_null, next_after, next_in};
 
 use group_name::GroupKey;
 use json::Writer;
-use run_plan::Number;
 use std::alloc::{AllocError, Global};
 use table_model::{Holder, LegSite, Run};
 use table_runs::runs::Runs;
@@ -21,8 +18,7 @@ use wf_value::Refusal;
 
 /// The other holder that is pending in a group, or else the one that is in progress.
 fn next_in(runs: &Runs, holder: &Holder, group: &GroupKey) -> Option<Holder>
-    ensures next { result ≡ next_in runs.now holder.now group.now }
-    ensures within { IfSome result (λ h. run_of h < max_runs) }
+    ensures { result ≡ next_in runs.now holder.now group.now }
 {
     let next = match runs.pending(group) {
         Some(pending) => pending,
@@ -33,8 +29,7 @@ fn next_in(runs: &Runs, holder: &Holder, group: &GroupKey) -> Option<Holder>
 
 /// The other holder of its group that comes next after a run or a leg.
 fn next_after(alloc: Global, runs: &Runs, holder: &Holder) -> Result<Option<Holder>, Refusal>
-    ensures next { Gives (λ next. next) result (Ok (next_after runs.now holder.now)) }
-    ensures within { IfOk result (λ next. IfSome next (λ h. run_of h < max_runs)) }
+    ensures { Gives (λ next. next) result (Ok (next_after runs.now holder.now)) }
 {
     match runs.group(alloc, holder)? {
         Some(group) => Ok(next_in(runs, holder, &group)),
@@ -44,7 +39,17 @@ fn next_after(alloc: Global, runs: &Runs, holder: &Holder) -> Result<Option<Hold
 
 // ---- as JSON
 
-/// The attempt that run `r` is in.
+/// The id of run `r`, 0 if there is none.
+fn id_at(runs: &Runs, r: usize) -> u32
+    ensures { result ≡ id_at runs.now r }
+{
+    match runs.as_slice().get(r) {
+        Some(run) => run.id().get(),
+        None => 0,
+    }
+}
+
+/// The attempt that run `r` is in, 0 if there is none.
 fn attempt_at(runs: &Runs, r: usize) -> u32
     ensures { result ≡ attempt_at runs.now r }
 {
@@ -63,7 +68,7 @@ fn quoted(alloc: Global, text: &str) -> Result<String, AllocError>
     Ok(String::from_utf8(writer.into_inner()).unwrap())
 }
 
-fn run_json(alloc: Global, run: usize, attempt: u32) -> Result<String, AllocError>
+fn run_json(alloc: Global, run: u32, attempt: u32) -> Result<String, AllocError>
     ensures { IfOk result (λ s. string_bytes s
         ≡ codes "{\"run\":" ++ decimal run ++ codes ",\"attempt\":" ++ decimal attempt ++ codes ",\"job\":null,\"leg\":null}") }
 {
@@ -72,7 +77,7 @@ fn run_json(alloc: Global, run: usize, attempt: u32) -> Result<String, AllocErro
 
 fn leg_json(
     alloc: Global,
-    run: usize,
+    run: u32,
     attempt: u32,
     job: &str,
     leg: usize,
@@ -86,27 +91,25 @@ fn leg_json(
 
 /// The leg at a site.
 fn site_json(alloc: Global, runs: &Runs, site: LegSite) -> Result<String, Refusal>
-    requires { site.run < max_runs }
     ensures { Gives string_bytes result (Ok (holder_json runs.now (held.Leg site))) }
 {
+    let run = id_at(runs, site.run);
+    let attempt = attempt_at(runs, site.run);
     let job = runs.job_id(alloc, site.run, site.job)?;
     let job = quoted(alloc, job.as_str())?;
-    let attempt = attempt_at(runs, site.run);
-    Ok(leg_json(alloc, site.run + 1, attempt, job.as_str(), site.leg)?)
+    Ok(leg_json(alloc, run, attempt, job.as_str(), site.leg)?)
 }
 
 fn holder_json(alloc: Global, runs: &Runs, holder: &Holder) -> Result<String, Refusal>
-    requires { run_of holder.now < max_runs }
     ensures { Gives string_bytes result (Ok (holder_json runs.now holder.now)) }
 {
     match holder {
-        Holder::Run(r) => Ok(run_json(alloc, *r + 1, attempt_at(runs, *r))?),
+        Holder::Run(r) => Ok(run_json(alloc, id_at(runs, *r), attempt_at(runs, *r))?),
         Holder::Leg(site) => site_json(alloc, runs, *site),
     }
 }
 
 fn holder_or_null(alloc: Global, runs: &Runs, holder: Option<Holder>) -> Result<String, Refusal>
-    requires { IfSome holder (λ h. run_of h < max_runs) }
     ensures { Gives string_bytes result (Ok (holder_or_null runs.now holder)) }
 {
     match holder {
@@ -132,21 +135,22 @@ fn line_of(
     )
 }
 
-/// The line of a run that made way, as it is after the entries up to a place, with who comes next in its group. `at` is the time of the commit,
-/// in milliseconds since 1970.
+/// The line of run `r`, which made way, as it is after the entries up to a place, with who comes next in its group. `at` is the time of the
+/// commit, in milliseconds since 1970.
 #[tactic(auto, unfolding(crate::specs::Displaced::displaced_line))]
 pub(crate) fn displaced_line(
     alloc: Global,
     place: u64,
     at: u64,
     runs: &Runs,
-    id: Number,
+    r: usize,
     run: &Run,
 ) -> Result<String, Refusal>
-    ensures { Gives string_bytes result (Ok (displaced_line place at runs.now id run.now)) }
+    ensures { Gives string_bytes result (Ok (displaced_line place at runs.now r run.now)) }
 {
-    let next = next_after(alloc, runs, &Holder::Run(id.get() as usize - 1))?;
+    let next = next_after(alloc, runs, &Holder::Run(r))?;
     let by = holder_or_null(alloc, runs, next)?;
+    let id = run.id().get();
     let attempt = run.attempt().get();
-    Ok(line_of(alloc, place, at, id.get(), attempt, by.as_str())?)
+    Ok(line_of(alloc, place, at, id, attempt, by.as_str())?)
 }

@@ -153,21 +153,21 @@ impl CoveredLog {
         Ok(())
     }
 
-    /// Takes up that a run made way for a newcomer of its group. Without memory for its line all lines are forgotten, and the counts go on.
+    /// Takes up that run `r` made way for a newcomer of its group. Without memory for its line all lines are forgotten, and the counts go on.
     pub(crate) fn displace(
         &mut self,
         alloc: Global,
         at: u64,
         runs: &Runs,
-        id: Number,
+        r: usize,
         run: &Run,
     ) -> Result<(), AllocError>
         requires { HasRoom self.old }
-        ensures ok { OnOk result (self.new ≡ with_change self.old (Displaced at runs.now id run.now)) }
-        ensures err { OnErr result (self.new ≡ losing_line self.old (Displaced at runs.now id run.now)) }
+        ensures ok { OnOk result (self.new ≡ with_change self.old (Displaced at runs.now r run.now)) }
+        ensures err { OnErr result (self.new ≡ losing_line self.old (Displaced at runs.now r run.now)) }
     {
-        let line = displaced_line(alloc, self.entries, at, runs, id, run);
-        self.told.displace(at, runs, id, run);
+        let line = displaced_line(alloc, self.entries, at, runs, r, run);
+        self.told.displace(at, runs, r, run);
         self.kept.keep(line)?;
         Ok(())
     }

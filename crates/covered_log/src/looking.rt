@@ -69,12 +69,12 @@ impl CoveredLog {
     }
 
     /// Tells that run `r` made way for a newcomer of its group.
-    fn tell_displaced(&mut self, alloc: Global, at: u64, runs: &Runs, id: Number, run: &Run)
-        ensures told { self.new.changes ≡ with_more self.old.changes (Displaced at runs.now id run.now) }
+    fn tell_displaced(&mut self, alloc: Global, at: u64, runs: &Runs, r: usize, run: &Run)
+        ensures told { self.new.changes ≡ with_more self.old.changes (Displaced at runs.now r run.now) }
         ensures entries { entries_of self.new.changes ≡ entries_of self.old.changes }
     {
         if self.has_room() {
-            let _ = self.displace(alloc, at, runs, id, run);
+            let _ = self.displace(alloc, at, runs, r, run);
         }
     }
 
@@ -150,14 +150,12 @@ impl CoveredLog {
         r: usize,
         run: &Run,
     )
-        requires { r < max_runs }
         ensures told { self.new.changes
             ≡ with_all self.old.changes (displaced_news look.now.at look.now.cancelled.now look.now.table.now told.now r run.now) }
         ensures entries { entries_of self.new.changes ≡ entries_of self.old.changes }
     {
-        if told.is_displaced(look.cancelled, r, run) {
-            let id = Number::new(r as u32 + 1);
-            self.tell_displaced(alloc, look.at, look.table.kept_runs(), id, run);
+        if told.is_displaced(look.cancelled, run) {
+            self.tell_displaced(alloc, look.at, look.table.kept_runs(), r, run);
         }
     }
 

@@ -113,6 +113,13 @@ fn is_same_leg(told: &Leg, leg: &Leg) -> bool
     leg_word(told.phase) == leg_word(leg.phase) && is_same_lease(told.lease, leg.lease)
 }
 
+/// Whether the id is one of these.
+fn has_id(ids: &[Number], id: Number) -> bool
+    ensures { result ≡ list_any (nat_eq id) ids.now }
+{
+    ids.iter().any(|one| id.get() == one.get())
+}
+
 impl Standing {
     /// A run of which nothing was told.
     pub(crate) fn untold(alloc: Global) -> Standing
@@ -172,11 +179,11 @@ impl Standing {
         !is_stopped(run) || (self.is_stopped && self.is_of_attempt(run))
     }
 
-    /// Whether run `r` made way for a newcomer of its group since it was told. `cancelled` are the runs that commands have cancelled since.
-    pub(crate) fn is_displaced(&self, cancelled: &[Number], r: usize, run: &Run) -> bool
-        ensures { result ≡ is_displaced cancelled.now self.now r run.now }
+    /// Whether a run made way for a newcomer of its group since it was told. `cancelled` are the ids of the runs that commands have cancelled since.
+    pub(crate) fn is_displaced(&self, cancelled: &[Number], run: &Run) -> bool
+        ensures { result ≡ is_displaced cancelled.now self.now run.now }
     {
-        !self.knows_stop(run) && !cancelled.iter().any(|id| r + 1 == id.get() as usize)
+        !self.knows_stop(run) && !has_id(cancelled, run.id())
     }
 
     /// How the run stands, if it does not stand as it was told, or these legs do not.
@@ -188,7 +195,7 @@ impl Standing {
     ) -> Result<Option<Standing>, AllocError>
         ensures { IfOk result (λ now. unwrap_or now self.now
             ≡ (if is_same self.now run.now && (knows_stop self.now run.now && nat_eq (length moved.now) 0)
-                then self.now else standing_of run.now)) }
+            then self.now else standing_of run.now)) }
     {
         if self.is_same(run) && self.knows_stop(run) && moved.is_empty() {
             return Ok(None);

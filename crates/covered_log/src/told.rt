@@ -18,8 +18,8 @@ pub(crate) enum Told {
     Attempt(u64, Snapshot<Runs>, Number, Number, Snapshot<Run>),
     Run(u64, Number, Snapshot<Run>),
     Leg(u64, Snapshot<LegNews>),
-    /// A run that made way for a newcomer of its group, among the runs of its table.
-    Displaced(u64, Snapshot<Runs>, Number, Snapshot<Run>),
+    /// A run, at its index among the runs of a table, that made way for a newcomer of its group.
+    Displaced(u64, Snapshot<Runs>, usize, Snapshot<Run>),
     Missed,
 }
 
@@ -79,11 +79,11 @@ impl ToldChanges {
         self.told = self.told.and(&stand, &true);
     }
 
-    /// Appends that a run made way for a newcomer of its group.
-    pub(crate) fn displace(&mut self, at: u64, runs: &Runs, id: Number, run: &Run)
-        ensures { self.new ≡ self.old ++ Displaced at runs.now id run.now ∷ [] }
+    /// Appends that run `r` made way for a newcomer of its group.
+    pub(crate) fn displace(&mut self, at: u64, runs: &Runs, r: usize, run: &Run)
+        ensures { self.new ≡ self.old ++ Displaced at runs.now r run.now ∷ [] }
     {
-        let displaced = Told::Displaced(at, Snapshot::of(runs), id, Snapshot::of(run));
+        let displaced = Told::Displaced(at, Snapshot::of(runs), r, Snapshot::of(run));
         self.told = self.told.and(&displaced, &true);
     }
 

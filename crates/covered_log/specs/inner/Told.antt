@@ -8,5 +8,5 @@ change_of (told.Entry at command reply) = Entered at command.value reply.value
 change_of (told.Attempt at runs id number run) = Begins at runs.value (record { id = id; number = number; run = run.value })
 change_of (told.Run at id run) = Stands at id run.value
 change_of (told.Leg at news) = LegStands at news.value
-change_of (told.Displaced at runs id run) = Displaced at runs.value id run.value
+change_of (told.Displaced at runs r run) = Displaced at runs.value r run.value
 change_of told.Missed = Missed

@@ -1,7 +1,7 @@
 //! How a turn shows clients of the view port what they ask for, and for how long.
 
-use crate::turns::hearing::ACCEPTED;
 use crate::turns::Turns;
+use crate::turns::hearing::ACCEPTED;
 use act_disk::Disk;
 use client_ports::MAX_CLIENTS;
 use service_views::Seen;

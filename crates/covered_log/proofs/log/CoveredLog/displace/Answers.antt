@@ -9,13 +9,13 @@ pub invariant_of-self : goal.invariant_of-self
 invariant_of-self c =
     rw (c.in_err-keep.ensures.err, c.displace.ensures)
     (log_loses c.self.inside.kept c.self.inside.entries c.self.inside.entries c.self.inside.told
-    (Displaced c.args.at c.args.runs.now c.args.id c.args.run.now) c.self.invariant (omega arith))
+    (Displaced c.args.at c.args.runs.now c.args.r c.args.run.now) c.self.invariant (omega arith))
 
 pub invariant_of-self-2 : goal.invariant_of-self-2
 invariant_of-self-2 c =
-    let kept : c.keep.new.self ≡ with_text c.self.inside.kept (line_of c.self.inside.entries (Displaced c.args.at c.args.runs.now c.args.id c.args.run.now)) =
+    let kept : c.keep.new.self ≡ with_text c.self.inside.kept (line_of c.self.inside.entries (Displaced c.args.at c.args.runs.now c.args.r c.args.run.now)) =
     of_given string_bytes (λ text. c.keep.new.self ≡ with_text c.self.inside.kept text) c.displaced_line-line.result
-    (line_of c.self.inside.entries (Displaced c.args.at c.args.runs.now c.args.id c.args.run.now)) c.displaced_line-line.ensures c.in_ok-keep.ensures.ok in
+    (line_of c.self.inside.entries (Displaced c.args.at c.args.runs.now c.args.r c.args.run.now)) c.displaced_line-line.ensures c.in_ok-keep.ensures.ok in
     rw (kept, c.displace.ensures)
     (log_keeps c.self.inside.kept c.self.inside.entries c.self.inside.entries c.self.inside.told
-    (Displaced c.args.at c.args.runs.now c.args.id c.args.run.now) c.self.invariant (omega arith))
+    (Displaced c.args.at c.args.runs.now c.args.r c.args.run.now) c.self.invariant (omega arith))
