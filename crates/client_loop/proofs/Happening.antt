@@ -1,7 +1,7 @@
 -- Events in a row.
-use Rattle.std.proofs.Common.{◌≡◌, ◌↔◌, ⊎_elim, ℕ, ◌+◌, ◌≤◌, true, false, Bool, List, [], ◌∷◌, ◌++◌, length, take, refl, sym, ap, subst, ◌∙◌, inl, inr, append-nil, append_assoc, length-append, arith, Ok, Err}
+use Rattle.std.proofs.Common.{◌≡◌, ◌↔◌, ⊎_elim, ℕ, ◌+◌, ◌<◌, ◌≤◌, get_or, true, false, Bool, List, [], ◌∷◌, ◌++◌, length, take, refl, sym, ap, subst, ◌∙◌, inl, inr, append-nil, append_assoc, length-append, arith, Ok, Err}
 use Rattle.std.specs.Prelude.{drop, IfNone, IfSome, Option, Some, None, if◌then◌else◌}
-use Rattle.std.proofs.lemmas.List.{length-set, take-append-le}
+use Rattle.std.proofs.lemmas.List.{length-set, take-append-le, take_more}
 use Rattle.table_model.specs.TableState.{TableState}
 use Rattle.definitions.specs.Disk.{EachSince}
 use Rattle.act_disk.proofs.Moments.{started, weakened, joined}
@@ -180,6 +180,13 @@ module _ {D : Type 0} where
   plays_more during p old mid new (e ∷ es) next plays happens so =
       (plays.0, plays.1, plays.2, plays_more during p plays.0 mid new es next plays.3 happens so)
 
+  pub plays_next : (during : ServiceState D → ServiceState D → Type 0) (p : ℕ → Conversation → Type 0) (old mid new : ServiceState D) (events : List Event)
+      (i : ℕ) (next : Event) → i < length events → Plays during p old (take i events) mid → Happens p mid (get_or events i next) new → during mid new
+      → Plays during p old (take (i + 1) events) new
+  plays_next during p old mid new events i next less plays happens so =
+      subst (λ (es : List Event). Plays during p old es new) (sym (take_more events i next less))
+      (plays_more during p old mid new (take i events) (get_or events i next) plays happens so)
+
 -- ---- each call
 
 module _ {D : Type 0} (p : ℕ → Conversation → Type 0) (honest : D → Type 0) (moment : D → ℕ) (images_since : D → ℕ → List ℕ → Type 0) (images : D → List ℕ → Type 0)
@@ -329,23 +336,23 @@ module _ {D : Type 0} (p : ℕ → Conversation → Type 0) where
   pub silent_on : (old new : ServiceState D) (next : Event) → old.store.failed ≡ true → Happens p old next new → Silent old new
   silent_on old new (event.Joins i) failed (inl same) = silent_same old new failed same
   silent_on old new (event.Joins i) failed (inr joins) = silent_slots old new failed joins.1.is
-  silent_on old new (event.Hears i) failed (inl same) = silent_same old new failed same
+  silent_on old new (event.Hears i) failed (inl same) = silent_same old new failed same.0
   silent_on old new (event.Hears i) failed (inr hears) = silent_hears i hears.0 old new failed hears.1
-  silent_on old new (event.GoesOn i) failed (inl same) = silent_same old new failed same
+  silent_on old new (event.GoesOn i) failed (inl same) = silent_same old new failed same.0
   silent_on old new (event.GoesOn i) failed (inr hears) = silent_hears i [] old new failed hears
-  silent_on old new (event.Sends i) failed (inl same) = silent_same old new failed same
+  silent_on old new (event.Sends i) failed (inl same) = silent_same old new failed same.0
   silent_on old new (event.Sends i) failed (inr sends) = silent_slots old new failed sends.1.is
-  silent_on old new (event.Discards i) failed (inl same) = silent_same old new failed same
+  silent_on old new (event.Discards i) failed (inl same) = silent_same old new failed same.0
   silent_on old new (event.Discards i) failed (inr discards) = silent_slots old new failed discards.is
-  silent_on old new (event.Leaves i) failed (inl same) = silent_same old new failed same
+  silent_on old new (event.Leaves i) failed (inl same) = silent_same old new failed same.0
   silent_on old new (event.Leaves i) failed (inr leaves) = silent_slots old new failed leaves.is
-  silent_on old new (event.Parts i) failed (inl same) = silent_same old new failed same
+  silent_on old new (event.Parts i) failed (inl same) = silent_same old new failed same.0
   silent_on old new (event.Parts i) failed (inr parts) = silent_slots old new failed parts.1.is
-  silent_on old new event.Commits failed quiet = silent_same old new failed (quiet.failed failed)
-  silent_on old new event.Begins failed quiet = silent_same old new failed (quiet.failed failed)
-  silent_on old new event.Slices failed quiet = silent_same old new failed (quiet.failed failed)
-  silent_on old new event.Finishes failed quiet = silent_same old new failed (quiet.failed failed)
-  silent_on old new event.TurnsOver failed quiet = silent_same old new failed (quiet.failed failed)
+  silent_on old new event.Commits failed quiet = silent_same old new failed (quiet.0.failed failed)
+  silent_on old new event.Begins failed quiet = silent_same old new failed (quiet.0.failed failed)
+  silent_on old new event.Slices failed quiet = silent_same old new failed (quiet.0.failed failed)
+  silent_on old new event.Finishes failed quiet = silent_same old new failed (quiet.0.failed failed)
+  silent_on old new event.TurnsOver failed quiet = silent_same old new failed (quiet.0.failed failed)
 
   pub stuck_on : (index : ℕ) (old new : ServiceState D) (next : Event) → IsStuck index old → Happens p old next new → IsStuck index new
   stuck_on index old new next stuck happens =
@@ -358,5 +365,5 @@ module _ {D : Type 0} (p : ℕ → Conversation → Type 0) where
       }
 
   pub stuck_silent : (index : ℕ) (old new : ServiceState D) → IsStuck index old → Happens p old (event.Sends index) new → new ≡ old
-  stuck_silent index old new stuck (inl same) = same
+  stuck_silent index old new stuck (inl same) = same.0
   stuck_silent index old new stuck (inr sends) = absurd (stuck.pending sends.1.covered)

@@ -80,6 +80,11 @@ stuck_of s index failed pending = record {
   pending = λ none. pending (ap (part_of index) (sym (drop_past s.past s.store.history s.store.covered)) ∙ none);
 }
 
+pub not_stuck : {D : Type 0} (s : ServiceState D) (index : ℕ) → IsStuck index s
+    → (s.store.failed ≡ true → part_of index (drop s.store.covered s.store.history) ≡ []) → ⊥
+not_stuck s index stuck none =
+    stuck.pending (ap (part_of index) (drop_past s.past s.store.history s.store.covered) ∙ none stuck.failed)
+
 pub is_pending : (b : Bool) (X : Type 0) → b ≡ false → IsTrue b ↔ X → X → ⊥
 is_pending true X isnt test x = cc
 is_pending false X isnt test x = let is : false ≡ true = test.1 x in cc

@@ -1,13 +1,14 @@
 -- Slots of two ports under one numbering.
 use Rattle.std.proofs.Common.{◌≡◌, ℕ, ◌+◌, ◌-◌, ◌<◌, ◌≤◌, Bool, true, false, List, [], ◌∷◌, ◌++◌, length, get_or, refl, sym, ap, subst, ◌∙◌, arith, zero, suc, length-append}
-use Rattle.std.specs.Prelude.{IfNone, IfSome, nat_lt, replicate, slice_get, slice_set, Option, Some, None}
+use Rattle.std.specs.Prelude.{◌↔◌, ◌≢◌, ◌&&◌, IfNone, IfSome, IsSome, IsTrue, is_some, nat_lt, not, option_map, replicate, slice_get, slice_set, Option, Some, None}
+use Rattle.std.specs.Option.{option_map_or}
 use Rattle.std.proofs.lemmas.Bool.Decides.{nat_tests}
 use Rattle.std.proofs.lemmas.List.{length-set, set-append_left, set-append_right}
 use Rattle.std.proofs.lemmas.Option.{slice_get_read}
 use Rattle.act_sessions.specs.Rules.{Rules}
-use Rattle.client_loop.specs.Clients.{SlotState, free_slot}
+use Rattle.client_loop.specs.Clients.{ClientState, IsSilent, IsUnheard, SlotState, awaits_input, free_slot, status_of}
 use Rattle.client_loop.specs.Conversation.{Conversation, Follows, no_conversation}
-use Rattle.client_loop.specs.Slots.{AreFree, ChangesSlot, FollowsAt, SlotsState, by_port}
+use Rattle.client_loop.specs.Slots.{AreFree, ChangesSlot, FollowsAt, OfClient, SlotsState, by_port, client_in}
 use Rattle.client_loop.proofs.HeldPieces.{at_first}
 
 -- ---- lists
@@ -158,3 +159,73 @@ module _ {F G : Type 0} (R : List ℕ → (Conversation → Type 0) → SlotStat
       → (bytes : List ℕ) × ChangesSlot (R bytes (by_port o.hooks p q index)) index o (both hooks (slice_set runners (index - n) now))
   with_runner o view below n count least was read (bytes, so) =
       (bytes, changes_runner (R bytes) p q index hooks runners now o view below n count least was read so)
+
+-- ---- of the client that has a slot
+
+pub at_hook : (X : Option ClientState → Type 0) (hooks runners : List SlotState) (o : SlotsState) → both hooks runners ≡ o → (index : ℕ) → index < length hooks
+    → (was : SlotState) → was ≡ get_or hooks index was → X was.client → X (client_in (slice_get o.all index))
+at_hook X hooks runners o view index less was read so =
+    subst (λ (s : SlotsState). X (client_in (slice_get s.all index))) view
+    (subst (λ (x : Option SlotState). X (client_in x))
+    (sym (get_left hooks runners index was (slice_get_read hooks (length hooks) index was refl less read))) so)
+
+pub at_runner : (X : Option ClientState → Type 0) (hooks runners : List SlotState) (o : SlotsState) → both hooks runners ≡ o → (index : ℕ) → index < length o.all
+    → (n : ℕ) → n ≡ length hooks → n ≤ index → (was : SlotState) → was ≡ get_or runners (index - n) was → X was.client
+    → X (client_in (slice_get o.all index))
+at_runner X hooks runners o view index below n count least was read so =
+    let at : slice_get runners (index - n) ≡ Some was =
+    slice_get_read runners (length runners) (index - n) was refl (runner_below hooks runners o view index below n count least) read in
+    subst (λ (s : SlotsState). X (client_in (slice_get s.all index))) view
+    (subst (λ (x : Option SlotState). X (client_in x))
+    (sym (get_right hooks runners index (index - n) was (omega (arith, count, least)) at)) so)
+
+pub client_hook : (P : ClientState → Type 0) (hooks runners : List SlotState) (o : SlotsState) → both hooks runners ≡ o → (index : ℕ) → index < length hooks
+    → (was : SlotState) → was ≡ get_or hooks index was → IfSome was.client P → OfClient P o index
+client_hook P hooks runners o view index less was read so = at_hook (λ (x : Option ClientState). IfSome x P) hooks runners o view index less was read so
+
+pub client_runner : (P : ClientState → Type 0) (hooks runners : List SlotState) (o : SlotsState) → both hooks runners ≡ o → (index : ℕ) → index < length o.all
+    → (n : ℕ) → n ≡ length hooks → n ≤ index → (was : SlotState) → was ≡ get_or runners (index - n) was → IfSome was.client P → OfClient P o index
+client_runner P hooks runners o view index below n count least was read so =
+    at_runner (λ (x : Option ClientState). IfSome x P) hooks runners o view index below n count least was read so
+
+-- a client that has a slot has a status
+abbrev pub HasStatus : Option ClientState → Type 0
+HasStatus o = IsSome (option_map status_of o)
+
+pub has_status : (o : Option ClientState) → IsSome o → HasStatus o
+has_status None is = cc
+has_status (Some c) is = refl
+
+get_none : (xs : List SlotState) (i : ℕ) → length xs ≤ i → slice_get xs i ≡ None
+get_none [] i least = refl
+get_none (x ∷ xs) zero least = absurd (omega (arith, least))
+get_none (x ∷ xs) (suc i) least = get_none xs i (omega (arith, least))
+
+beyond : (b less : Bool) (i n : ℕ) → nat_lt i n ≡ less → IsTrue b ↔ (i < n) → b ≡ false → n ≤ i
+beyond true less i n is test isnt = cc
+beyond false true i n is test isnt =
+    let below : i < n = grind (arith, nat_tests, is) in
+    let no : false ≡ true = test.1 below in cc
+beyond false false i n is test isnt = grind (arith, nat_tests, is)
+
+-- where there is no slot
+pub no_slot : (P : ClientState → Type 0) (slots : SlotsState) (index : ℕ) (b : Bool) → IsTrue b ↔ (index < length slots.all) → b ≡ false → OfClient P slots index
+no_slot P slots index b test isnt =
+    let least : length slots.all ≤ index = beyond b (nat_lt index (length slots.all)) index (length slots.all) refl test isnt in
+    subst (λ (x : Option SlotState). IfSome (client_in x) P) (sym (get_none slots.all index least)) tt
+
+pub some_not_none : (o : Option (List ℕ)) → is_some o ≡ true → o ≢ None
+some_not_none None is none = cc
+some_not_none (Some x) is none = cc
+
+live_of : (over other : Bool) → (not over && other) ≡ true → over ≡ false
+live_of true other is = cc
+live_of false other is = refl
+
+pub silent_unheard : (o : Option ClientState) → IfSome o IsSilent → IfSome o IsUnheard
+silent_unheard None so = tt
+silent_unheard (Some c) so = λ awaits. so (live_of c.now.over _ awaits)
+
+pub not_awaited : (o : Option ClientState) (b : Bool) → b ≡ option_map_or awaits_input (option_map status_of o) false → b ≡ false → IfSome o IsUnheard
+not_awaited None b is isnt = tt
+not_awaited (Some c) b is isnt = λ awaits. let no : true ≡ false = sym awaits ∙ sym is ∙ isnt in cc

@@ -1,7 +1,7 @@
 -- The steps of a store that enter no command.
-use Rattle.std.proofs.Common.{◌≡◌, ⊎_elim, ℕ, ◌≤◌, Bool, true, false, length, refl, ap, ◌∙◌, subst, sym, arith}
+use Rattle.std.proofs.Common.{◌≡◌, ⊎_elim, ℕ, ◌≤◌, Bool, true, false, length, refl, ap, ◌∙◌, subst, sym, arith, Ok, Err}
 use Rattle.std.proofs.Math.Nat.{eq-or-lt_of_le}
-use Rattle.std.specs.Prelude.{Option, Some, None, IsSomeAnd, if◌then◌else◌, ◌||◌, is_some, nat_lt}
+use Rattle.std.specs.Prelude.{Option, Some, None, Result, OnErr, IsSomeAnd, if◌then◌else◌, ◌||◌, is_some, nat_lt}
 use Rattle.wf_value.specs.declared.refusal.Refusal.{Refusal}
 use Rattle.act_store.specs.Checkpoints.{begun_at, dropped, finished, sliced}
 use Rattle.act_store.specs.Plain.{broken, checkpoint_order, committed, failed_earlier, refusal_of_turn_over}
@@ -116,3 +116,8 @@ failed_or false false false is = cc
 -- only a store that has failed refuses a turn-over so
 pub failed_refusal : {D : Type 0} (s : StoreState D) → refusal_of_turn_over s ≡ Some failed_earlier → s.failed ≡ true
 failed_refusal s is = failed_or s.failed (is_some s.begun) (nat_lt s.covered (length s.history)) is
+
+-- what is so, is so of a refusal
+pub on_err : {A X : Type 0} (result : Result A Refusal) → X → OnErr result X
+on_err (Ok a) x = tt
+on_err (Err e) x = x

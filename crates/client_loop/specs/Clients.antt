@@ -7,6 +7,7 @@ use Rattle.act_store.specs.declared.entry.Entry.{Entry}
 use Rattle.client_loop.specs.Conversation.{Conversation, no_conversation}
 use Rattle.client_loop.specs.Entering.{entries_of, part_of}
 use Rattle.client_loop.specs.Hearing.{Hears}
+use Rattle.client_loop.specs.Streams.{GivesNothing}
 use Rattle.client_loop.specs.declared.status.ClientStatus.{ClientStatus}
 
 -- a stream: the bytes that it will give, and all that were written to it, where they are known
@@ -166,6 +167,31 @@ pub record ClientDiscards (old new : ClientState) : Type 0 where
   pub read : Consumes old.wire.remaining wire.remaining piece
   pub kept : wire.contents ≡ old.wire.contents
   pub is : new ≡ record old { wire = wire }
+
+-- ---- or why nothing happens to it
+
+-- Nothing is heard of it: its next bytes may not be read, or its stream gives nothing.
+abbrev pub IsUnheard : ClientState → Type 0
+IsUnheard c = awaits_input (status_of c) ≡ true → GivesNothing c.wire.remaining
+
+-- Its session goes on only where its stream gives nothing.
+abbrev pub IsSilent : ClientState → Type 0
+IsSilent c = c.now.over ≡ false → GivesNothing c.wire.remaining
+
+-- Its session is over only where its stream gives nothing.
+abbrev pub IsDrained : ClientState → Type 0
+IsDrained c = c.now.over ≡ true → GivesNothing c.wire.remaining
+
+abbrev pub IsOver : ClientState → Type 0
+IsOver c = c.now.over ≡ true
+
+-- The service has parted with it.
+abbrev pub IsParted : ClientState → Type 0
+IsParted c = c.now.parted ≢ None
+
+-- Nothing is withheld from it.
+abbrev pub OwesNothing : ClientState → Type 0
+OwesNothing c = c.now.withheld ≡ []
 
 -- ---- and to a slot
 

@@ -1,15 +1,20 @@
 -- What may happen to a service, in any order.
-use Rattle.std.specs.Prelude.{◌≡◌, ◌⊎◌, ◌↔◌, ℕ, ◌<◌, ◌≤◌, List, [], ◌∷◌, ◌++◌, length, ⊤, true}
+use Rattle.std.specs.Prelude.{◌≡◌, ◌⊎◌, ◌↔◌, ℕ, ◌<◌, ◌≤◌, List, [], ◌∷◌, ◌++◌, length, ⊤, true, None, Some}
 use Rattle.definitions.specs.Disk.{EachSince}
-use Rattle.act_store.specs.Plain.{broken}
+use Rattle.act_store.specs.Plain.{broken, refusal_of_turn_over, turned_over}
+use Rattle.act_store.specs.Steps.{Takes}
 use Rattle.act_store.specs.StoreState.{RecoversToSome}
 use Rattle.act_store.specs.declared.entry.Entry.{Entry}
+use Rattle.act_store.specs.declared.step.Played.{Played}
 use Rattle.act_store.specs.declared.step.Step.{Step}
 use Rattle.act_store.specs.declared.step.Step.TheVariants as requested
 use Rattle.client_loop.specs.Conversation.{Conversation}
-use Rattle.client_loop.specs.Clients.{Wire}
-use Rattle.client_loop.specs.Service.{ServiceDiscards, ServiceHears, ServiceJoins, ServiceLeaves, ServiceParts, ServiceSends, ServiceState}
-use Rattle.client_loop.specs.Service.{covered_of, history_of}
+use Rattle.client_loop.specs.Clients.{IsDrained, IsOver, IsParted, IsUnheard, OwesNothing, Wire}
+use Rattle.client_loop.specs.Entering.{part_of}
+use Rattle.client_loop.specs.Service.{IsStuck, ServiceDiscards, ServiceHears, ServiceJoins, ServiceLeaves, ServiceParts, ServiceSends, ServiceState}
+use Rattle.client_loop.specs.Service.{covered_of, history_of, pending_of}
+use Rattle.client_loop.specs.Slots.{OfClient}
+use Rattle.wf_value.specs.declared.refusal.Refusal.{Refusal}
 use Rattle.client_loop.specs.declared.event.Event.{Event}
 use Rattle.client_loop.specs.declared.event.Event.TheVariants.{Begins, Commits, Discards, Finishes, GoesOn, Hears, Joins, Leaves, Parts, Sends, Slices, TurnsOver}
 
@@ -35,20 +40,41 @@ pub record IsBroken {D : Type 0} (old new : ServiceState D) : Type 0 where
   pub pending : old.store.covered < length old.store.history
   pub is : new ≡ record old { store = broken old.store new.store.disk }
 
+-- All entries are covered, or the device has failed.
+abbrev pub Covers : {D : Type 0} → ServiceState D → Type 0
+Covers s = (covered_of s ≡ length (history_of s)) ⊎ (s.store.failed ≡ true)
+
+-- the service with a new history of its store
+abbrev pub with_turn : {D : Type 0} → ServiceState D → ServiceState D
+with_turn s = record s { store = turned_over s.store; past = history_of s }
+
+-- The store's history restarts, unless the store has a cause to refuse that.
+pub record Turns {D : Type 0} (old new : ServiceState D) : Type 0 where
+  pub turned : refusal_of_turn_over old.store ≡ None → new ≡ with_turn old
+  pub refused : (e : Refusal) → refusal_of_turn_over old.store ≡ Some e → new ≡ old
+
+-- The store takes this step.
+abbrev pub TakesStep : {D : Type 0} → Step → ServiceState D → ServiceState D → Type 0
+TakesStep step old new = (answer : Played) × Takes old.store step answer new.store
+
 -- One event; or it was not possible, and nothing changed. What comes in a piece, how much a stream takes and which stream joins is left open.
+-- Only a client may join that does not, where a slot is free: there may be no further stream.
 abbrev pub Happens : {D : Type 0} → (ℕ → Conversation → Type 0) → ServiceState D → Event → ServiceState D → Type 0
 Happens follows old (Joins index) new = (new ≡ old) ⊎ ((wire : Wire) × ServiceJoins index wire old new)
-Happens follows old (Hears index) new = (new ≡ old) ⊎ ((piece : List ℕ) × ServiceHears follows index piece old new)
-Happens follows old (GoesOn index) new = (new ≡ old) ⊎ ServiceHears follows index [] old new
-Happens follows old (Sends index) new = (new ≡ old) ⊎ ((n : ℕ) × ServiceSends follows index n old new)
-Happens follows old (Discards index) new = (new ≡ old) ⊎ ServiceDiscards index old new
-Happens follows old (Leaves index) new = (new ≡ old) ⊎ ServiceLeaves index old new
-Happens follows old (Parts index) new = (new ≡ old) ⊎ ((farewell : List ℕ) × ServiceParts follows index farewell old new)
-Happens follows old Commits new = IsQuiet old new
-Happens follows old TurnsOver new = IsQuiet old new
-Happens follows old Begins new = IsQuiet old new
-Happens follows old Slices new = IsQuiet old new
-Happens follows old Finishes new = IsQuiet old new
+Happens follows old (Hears index) new =
+    ((new ≡ old) × OfClient IsUnheard old.slots index) ⊎ ((piece : List ℕ) × ServiceHears follows index piece old new)
+Happens follows old (GoesOn index) new = ((new ≡ old) × OfClient IsOver old.slots index) ⊎ ServiceHears follows index [] old new
+Happens follows old (Sends index) new =
+    ((new ≡ old) × (part_of index (pending_of old) ≡ [] → OfClient IsParted old.slots index)) ⊎ ((n : ℕ) × ServiceSends follows index n old new)
+Happens follows old (Discards index) new = ((new ≡ old) × OfClient IsDrained old.slots index) ⊎ ServiceDiscards index old new
+Happens follows old (Leaves index) new = ((new ≡ old) × (length old.slots.all ≤ index)) ⊎ ServiceLeaves index old new
+Happens follows old (Parts index) new =
+    ((new ≡ old) × (IsStuck index old → OfClient OwesNothing old.slots index)) ⊎ ((farewell : List ℕ) × ServiceParts follows index farewell old new)
+Happens follows old Commits new = IsQuiet old new × Covers new
+Happens follows old TurnsOver new = IsQuiet old new × Turns old new
+Happens follows old Begins new = IsQuiet old new × TakesStep requested.Begin old new
+Happens follows old Slices new = IsQuiet old new × TakesStep requested.Slice old new
+Happens follows old Finishes new = IsQuiet old new × TakesStep requested.Finish old new
 
 -- Entries are appended to the history, and covered ones stay covered.
 pub record Grows {D : Type 0} (old new : ServiceState D) : Type 0 where

@@ -6,6 +6,7 @@ pub mod Hearing
 pub mod Looking
 pub mod Service
 pub mod Slots
+pub mod Streams
 pub mod inner
 
 -- A service of many clients over one store, in one thread.

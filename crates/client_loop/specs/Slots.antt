@@ -1,5 +1,5 @@
 -- The slots of two ports under one numbering: first those of hooks, then those of runners.
-use Rattle.std.specs.Prelude.{◌≡◌, ℕ, ◌+◌, List, [], ◌∷◌, length, replicate, slice_get, slice_set, nat_lt, option_map, Option, Some, None, Bool, true, false, ⊤}
+use Rattle.std.specs.Prelude.{◌≡◌, ℕ, ◌+◌, List, [], ◌∷◌, IfSome, length, replicate, slice_get, slice_set, nat_lt, option_map, Option, Some, None, Bool, true, false, ⊤}
 use Rattle.act_sessions.specs.Rules.{Rules}
 use Rattle.act_store.specs.declared.entry.Entry.{Entry}
 use Rattle.client_loop.specs.Clients.{AreServed, ClientState, SlotState, clients_of, free_slot, status_of}
@@ -30,6 +30,10 @@ client_in (Some slot) = slot.client
 -- what a caller sees of the client that has a slot
 abbrev pub status_at : SlotsState → ℕ → Option ClientStatus
 status_at slots index = option_map status_of (client_in (slice_get slots.all index))
+
+-- If a client has the slot, this is so of it.
+abbrev pub OfClient : (ClientState → Type 0) → SlotsState → ℕ → Type 0
+OfClient P slots index = IfSome (client_in (slice_get slots.all index)) P
 
 -- One slot changes so, and no other.
 pub record ChangesSlot (changes : SlotState → SlotState → Type 0) (index : ℕ) (old new : SlotsState) : Type 0 where

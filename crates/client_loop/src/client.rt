@@ -1,6 +1,7 @@
 ghost use Rattle.std.specs.Prelude.{◌≡◌, ◌≢◌, ◌≤◌, ℕ, List, [], IfNone, IfSome, None, is_some, length, take, true, false, vec_len};
 ghost use Rattle.client_loop.specs.Clients.{ClientDiscards, ClientHears, ClientParts, ClientSends, new_client, status_of, wire_of};
 ghost use Rattle.client_loop.specs.Conversation.{Follows};
+ghost use Rattle.client_loop.specs.Streams.{GivesNothing};
 
 use crate::session::Session;
 use crate::status::ClientStatus;
@@ -83,6 +84,7 @@ impl<P: Protocol, S: Stream> Client<P, S> {
         ensures bound { IfSome result (λ n. n ≤ vec_len buffer.new) }
         ensures heard { IfSome result (λ n. ClientHears (Follows P.rules) number (take n buffer.new.items) store.old store.new self.old self.new) }
         ensures none { IfNone result ((self.new ≡ self.old) × (store.new ≡ store.old)) }
+        ensures silent { IfNone result (GivesNothing self.old.wire.remaining) }
     {
         let Some(count) = self.stream.read(buffer) else {
             return None;
@@ -125,6 +127,7 @@ impl<P: Protocol, S: Stream> Client<P, S> {
         ensures bound { IfSome result (λ n. n ≤ vec_len buffer.new) }
         ensures discarded { IfSome result (λ n. ClientDiscards self.old self.new) }
         ensures none { IfNone result (self.new ≡ self.old) }
+        ensures silent { IfNone result (GivesNothing self.old.wire.remaining) }
     {
         self.stream.read(buffer)
     }

@@ -1,10 +1,11 @@
 //! How a service hears its clients.
 
 ghost use Rattle.std.specs.Prelude.{◌≡◌, ◌≤◌, ◌<◌, [], IfNone, IfSome, IsSomeAnd, length, take, true, false, vec_len};
-ghost use Rattle.client_loop.specs.Clients.{awaits_input};
+ghost use Rattle.std.specs.Option.{option_map_or};
+ghost use Rattle.client_loop.specs.Clients.{IsDrained, IsOver, IsUnheard, awaits_input};
 ghost use Rattle.client_loop.specs.Events.{Survives};
 ghost use Rattle.client_loop.specs.Service.{ServiceDiscards, ServiceHears};
-ghost use Rattle.client_loop.specs.Slots.{by_port, status_at};
+ghost use Rattle.client_loop.specs.Slots.{OfClient, by_port, status_at};
 
 use crate::service::Service;
 use crate::stream::Stream;
@@ -32,16 +33,14 @@ impl<D: Disk, P: Protocol, Q: Protocol, S: Stream> Service<D, P, Q, S> {
     /// Promise (A service in one thread): A client is read from only once all that it has asked is answered and sent, and from its own stream; what
     ///   was read is what is heard. Where nothing is read nothing changes
     /// By: `client_loop::Service::hear_from`, `awaited`, `heard`, `none`
-    pub fn hear_from(
-        &mut self,
-        alloc: Global,
-        index: usize,
-        buffer: &mut Vec<u8>,
-    ) -> Option<usize>
+    /// Promise (A service in one thread): Nothing is read only where there is no client that may be read from, or its stream gives nothing
+    /// By: `client_loop::Service::hear_from`, `unheard` (`IsUnheard`); `client_loop::Stream`, `silent`
+    pub fn hear_from(&mut self, alloc: Global, index: usize, buffer: &mut Vec<u8>) -> Option<usize>
         ensures awaited { IfSome result (λ n. IsSomeAnd (status_at self.old.slots index) (λ s. awaits_input s ≡ true)) }
         ensures bound { IfSome result (λ n. n ≤ vec_len buffer.new) }
         ensures heard { IfSome result (λ n. ServiceHears (by_port self.old.slots.hooks P.rules Q.rules) index (take n buffer.new.items) self.old self.new) }
         ensures none { IfNone result (self.new ≡ self.old) }
+        ensures unheard { IfNone result (OfClient IsUnheard self.old.slots index) }
         ensures survives { Survives D.honest D.moment D.images_since self.old self.new }
     {
         let _covered = self.store.covered();
@@ -56,6 +55,7 @@ impl<D: Disk, P: Protocol, Q: Protocol, S: Stream> Service<D, P, Q, S> {
     pub fn go_on(&mut self, alloc: Global, index: usize) -> bool
         ensures heard { result ≡ true → ServiceHears (by_port self.old.slots.hooks P.rules Q.rules) index [] self.old self.new }
         ensures same { result ≡ false → self.new ≡ self.old }
+        ensures over { result ≡ false → OfClient IsOver self.old.slots index }
         ensures survives { Survives D.honest D.moment D.images_since self.old self.new }
     {
         let _covered = self.store.covered();
@@ -70,6 +70,7 @@ impl<D: Disk, P: Protocol, Q: Protocol, S: Stream> Service<D, P, Q, S> {
         ensures bound { IfSome result (λ n. n ≤ vec_len buffer.new) }
         ensures discarded { IfSome result (λ n. ServiceDiscards index self.old self.new) }
         ensures none { IfNone result (self.new ≡ self.old) }
+        ensures silent { IfNone result (OfClient IsDrained self.old.slots index) }
         ensures survives { Survives D.honest D.moment D.images_since self.old self.new }
     {
         let _covered = self.store.covered();
@@ -81,6 +82,7 @@ impl<D: Disk, P: Protocol, Q: Protocol, S: Stream> Service<D, P, Q, S> {
 
     /// Whether there is a client in a slot whose next bytes may be read.
     fn awaits_input(&self, index: usize) -> bool
+        ensures exact { result ≡ option_map_or awaits_input (status_at self.now.slots index) false }
         ensures slot { result ≡ true → index < length self.now.slots.all }
         ensures awaited { result ≡ true → IsSomeAnd (status_at self.now.slots index) (λ s. awaits_input s ≡ true) }
     {

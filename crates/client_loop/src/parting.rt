@@ -3,8 +3,9 @@
 ghost use Rattle.std.specs.Prelude.{◌≡◌, ◌≢◌, ℕ, List, [], drop, true, false};
 ghost use Rattle.client_loop.specs.Entering.{part_of};
 ghost use Rattle.client_loop.specs.Events.{Survives};
-ghost use Rattle.client_loop.specs.Service.{ServiceParts};
-ghost use Rattle.client_loop.specs.Slots.{by_port};
+ghost use Rattle.client_loop.specs.Clients.{OwesNothing};
+ghost use Rattle.client_loop.specs.Service.{IsStuck, ServiceParts};
+ghost use Rattle.client_loop.specs.Slots.{OfClient, by_port};
 
 use crate::sending::none_pending;
 use crate::service::Service;
@@ -19,6 +20,7 @@ use wf_value::{Code, Refusal};
 fn is_stuck<D: Disk>(store: &mut Store<D>, number: u64) -> bool
     ensures failed { result ≡ true → store.old.failed ≡ true }
     ensures pending { result ≡ true → part_of number (drop store.old.covered store.old.history) ≢ [] }
+    ensures live { result ≡ false → store.old.failed ≡ true → part_of number (drop store.old.covered store.old.history) ≡ [] }
     ensures same { store.new ≡ store.old }
 {
     let _covered = store.covered();
@@ -39,14 +41,20 @@ impl<D: Disk, P: Protocol, Q: Protocol, S: Stream> Service<D, P, Q, S> {
     /// Promise (A service in one thread): After a device fault the answers to a client with an entry that is not covered are dropped; in their place,
     ///   and only after whole answers, the refusal 52 or a prefix of it is sent, and its session is over
     /// By: `client_loop::Service::part`, `parted`, `same` (`ServiceParts`, `IsStuck`, `IsParting`)
+    /// Promise (A service in one thread): A service that is asked to part with such a client does so, if answers are withheld from it
+    /// By: `client_loop::Service::part`, `owed` (`OwesNothing`)
     pub fn part(&mut self, alloc: Global, index: usize) -> bool
         ensures parted { result ≡ true → (farewell : List ℕ)
             × ServiceParts (by_port self.old.slots.hooks P.rules Q.rules) index farewell self.old self.new }
         ensures same { result ≡ false → self.new ≡ self.old }
+        ensures owed { result ≡ false → IsStuck index self.old → OfClient OwesNothing self.old.slots index }
         ensures survives { Survives D.honest D.moment D.images_since self.old self.new }
     {
         let _covered = self.store.covered();
-        if !self.slots.has(index) || !is_stuck(&mut self.store, index as u64) {
+        if !self.slots.has(index) {
+            return false;
+        }
+        if !is_stuck(&mut self.store, index as u64) {
             return false;
         }
         self.slots.part(alloc, index)

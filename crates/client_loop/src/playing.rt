@@ -76,6 +76,9 @@ fn happen<D: Disk, P: Protocol, Q: Protocol, S: Stream>(
 /// Promise (A service in one thread): Any events in any order, whatever the device does: at every moment of each event the disk recovers to the
 ///   table after some first entries of one history, with all covered when the event began
 /// By: `client_loop::play`, `plays` (`Plays`, `Happens`, `Survives`), `any_moment`, `grows`, `honest`
+/// Promise (A service in one thread): Each event but a client's joining is left out only for its cause: no client, a session that is over or goes
+///   on, a stream that gives nothing, answers that are not covered, nothing withheld, or a refusal of the store
+/// By: `client_loop::play`, `plays` (`Happens`)
 /// Promise (A service in one thread): That history begins at the service's first table. A turn-over changes neither the history nor what is
 ///   covered
 /// By: `client_loop::play`, `plays` (`Plays`, `Happens`), `grows`

@@ -1,10 +1,11 @@
 //! How a service sends answers.
 
 ghost use Rattle.std.specs.Prelude.{◌≡◌, ◌<◌, ◌↔◌, [], IfNone, IfSome, IsTrue, drop, length};
+ghost use Rattle.client_loop.specs.Clients.{IsParted};
 ghost use Rattle.client_loop.specs.Entering.{IsUnder, part_of};
 ghost use Rattle.client_loop.specs.Events.{Survives};
 ghost use Rattle.client_loop.specs.Service.{ServiceSends, pending_of};
-ghost use Rattle.client_loop.specs.Slots.{by_port};
+ghost use Rattle.client_loop.specs.Slots.{OfClient, by_port};
 
 use crate::service::Service;
 use crate::stream::Stream;
@@ -50,13 +51,20 @@ impl<D: Disk, P: Protocol, Q: Protocol, S: Stream> Service<D, P, Q, S> {
     /// Promise (A service in one thread): Bytes are sent to a client only while every entry under its number is covered: of these the withheld
     ///   ones, in order, each once, by its own stream
     /// By: `client_loop::Service::send_to`, `sent`, `none` (`ServiceSends`, `ClientSends`); `client_loop::Service::may_send`
+    /// Promise (A service in one thread): Nothing is written only where an entry under the number is not covered, no client is there, or the
+    ///   service has parted with it
+    /// By: `client_loop::Service::send_to`, `unsent` (`IsParted`)
     pub fn send_to(&mut self, index: usize) -> Option<usize>
         ensures sent { IfSome result (λ n. ServiceSends (by_port self.old.slots.hooks P.rules Q.rules) index n self.old self.new) }
         ensures none { IfNone result (self.new ≡ self.old) }
+        ensures unsent { IfNone result (part_of index (pending_of self.old) ≡ [] → OfClient IsParted self.old.slots index) }
         ensures survives { Survives D.honest D.moment D.images_since self.old self.new }
     {
         let _covered = self.store.covered();
-        if !self.slots.has(index) || !self.may_send(index) {
+        if !self.slots.has(index) {
+            return None;
+        }
+        if !self.may_send(index) {
             return None;
         }
         self.slots.send_to(index)

@@ -1,4 +1,5 @@
 ghost use Rattle.std.specs.Prelude.{◌≡◌, ◌≤◌, ℕ, List, [], IfNone, IfSome, IsSome, None, option_map, take, true, false, vec_len};
+ghost use Rattle.client_loop.specs.Clients.{IsDrained, IsOver, IsParted, IsSilent, OwesNothing};
 ghost use Rattle.client_loop.specs.Clients.{SlotDiscards, SlotHears, SlotJoins, SlotLeaves, SlotParts, SlotSends, free_slot, status_of, wire_of};
 ghost use Rattle.client_loop.specs.Conversation.{Follows};
 
@@ -94,6 +95,7 @@ impl<P: Protocol, S: Stream> Slot<P, S> {
         ensures bound { IfSome result (λ n. n ≤ vec_len buffer.new) }
         ensures heard { IfSome result (λ n. SlotHears (Follows P.rules) number (take n buffer.new.items) store.old store.new self.old self.new) }
         ensures none { IfNone result ((self.new ≡ self.old) × (store.new ≡ store.old)) }
+        ensures silent { IfNone result (IfSome self.old.client IsSilent) }
     {
         let Some(client) = &mut self.client else {
             return None;
@@ -113,6 +115,7 @@ impl<P: Protocol, S: Stream> Slot<P, S> {
     ) -> bool
         ensures heard { result ≡ true → SlotHears (Follows P.rules) number [] store.old store.new self.old self.new }
         ensures same { result ≡ false → (self.new ≡ self.old) × (store.new ≡ store.old) }
+        ensures over { result ≡ false → IfSome self.old.client IsOver }
     {
         let Some(client) = &mut self.client else {
             return false;
@@ -129,6 +132,7 @@ impl<P: Protocol, S: Stream> Slot<P, S> {
     pub(crate) fn send_to(&mut self) -> Option<usize>
         ensures sent { IfSome result (λ n. SlotSends (Follows P.rules) n self.old self.new) }
         ensures none { IfNone result (self.new ≡ self.old) }
+        ensures parted { IfNone result (IfSome self.old.client IsParted) }
     {
         let Some(client) = &mut self.client else {
             return None;
@@ -143,6 +147,7 @@ impl<P: Protocol, S: Stream> Slot<P, S> {
     pub(crate) fn part(&mut self, alloc: Global) -> bool
         ensures parted { result ≡ true → (farewell : List ℕ) × SlotParts (Follows P.rules) farewell self.old self.new }
         ensures same { result ≡ false → self.new ≡ self.old }
+        ensures owes { result ≡ false → IfSome self.old.client OwesNothing }
     {
         let Some(client) = &mut self.client else {
             return false;
@@ -159,6 +164,7 @@ impl<P: Protocol, S: Stream> Slot<P, S> {
         ensures bound { IfSome result (λ n. n ≤ vec_len buffer.new) }
         ensures discarded { IfSome result (λ n. SlotDiscards self.old self.new) }
         ensures none { IfNone result (self.new ≡ self.old) }
+        ensures silent { IfNone result (IfSome self.old.client IsDrained) }
     {
         let Some(client) = &mut self.client else {
             return None;

@@ -1,6 +1,7 @@
 ghost use Rattle.std.specs.Prelude.{◌≡◌, ◌≤◌, ◌<◌, ◌↔◌, ◌+◌, ℕ, List, [], IfNone, IfOk, IfSome, IsSome, IsTrue, length, replicate, take, true, false, vec_len};
+ghost use Rattle.client_loop.specs.Clients.{IsDrained, IsOver, IsParted, IsSilent, OwesNothing};
 ghost use Rattle.client_loop.specs.Clients.{SlotDiscards, SlotHears, SlotJoins, SlotLeaves, SlotParts, SlotSends, free_slot, wire_of};
-ghost use Rattle.client_loop.specs.Slots.{AreFree, ChangesSlot, by_port, status_at};
+ghost use Rattle.client_loop.specs.Slots.{AreFree, ChangesSlot, OfClient, by_port, status_at};
 
 use crate::slot::Slot;
 use crate::status::ClientStatus;
@@ -46,11 +47,7 @@ fn free_slots<P: Protocol, S: Stream>(
 
 impl<P: Protocol, Q: Protocol, S: Stream> Slots<P, Q, S> {
     /// So many slots of each port that no client has had.
-    pub fn new(
-        alloc: Global,
-        hooks: usize,
-        runners: usize,
-    ) -> Result<Slots<P, Q, S>, AllocError>
+    pub fn new(alloc: Global, hooks: usize, runners: usize) -> Result<Slots<P, Q, S>, AllocError>
         ensures hooks { IfOk result (λ slots. slots.hooks ≡ hooks) }
         ensures all { IfOk result (λ slots. length slots.all ≡ hooks + runners) }
         ensures free { IfOk result (λ slots. AreFree slots.all) }
@@ -130,6 +127,7 @@ impl<P: Protocol, Q: Protocol, S: Stream> Slots<P, Q, S> {
         ensures heard { IfSome result (λ n. ChangesSlot
             (SlotHears (by_port self.old.hooks P.rules Q.rules index) index (take n buffer.new.items) store.old store.new) index self.old self.new) }
         ensures none { IfNone result ((self.new ≡ self.old) × (store.new ≡ store.old)) }
+        ensures silent { IfNone result (OfClient IsSilent self.old index) }
     {
         if index < self.hooks.len() {
             self.hooks[index].hear_from(alloc, store, index as u64, buffer)
@@ -150,6 +148,7 @@ impl<P: Protocol, Q: Protocol, S: Stream> Slots<P, Q, S> {
         ensures heard { result ≡ true → ChangesSlot (SlotHears (by_port self.old.hooks P.rules Q.rules index) index [] store.old store.new)
             index self.old self.new }
         ensures same { result ≡ false → (self.new ≡ self.old) × (store.new ≡ store.old) }
+        ensures over { result ≡ false → OfClient IsOver self.old index }
     {
         if index < self.hooks.len() {
             self.hooks[index].go_on(alloc, store, index as u64)
@@ -165,6 +164,7 @@ impl<P: Protocol, Q: Protocol, S: Stream> Slots<P, Q, S> {
         requires { index < length self.old.all }
         ensures sent { IfSome result (λ n. ChangesSlot (SlotSends (by_port self.old.hooks P.rules Q.rules index) n) index self.old self.new) }
         ensures none { IfNone result (self.new ≡ self.old) }
+        ensures parted { IfNone result (OfClient IsParted self.old index) }
     {
         if index < self.hooks.len() {
             self.hooks[index].send_to()
@@ -180,6 +180,7 @@ impl<P: Protocol, Q: Protocol, S: Stream> Slots<P, Q, S> {
         ensures parted { result ≡ true → (farewell : List ℕ)
             × ChangesSlot (SlotParts (by_port self.old.hooks P.rules Q.rules index) farewell) index self.old self.new }
         ensures same { result ≡ false → self.new ≡ self.old }
+        ensures owes { result ≡ false → OfClient OwesNothing self.old index }
     {
         if index < self.hooks.len() {
             self.hooks[index].part(alloc)
@@ -195,6 +196,7 @@ impl<P: Protocol, Q: Protocol, S: Stream> Slots<P, Q, S> {
         ensures bound { IfSome result (λ n. n ≤ vec_len buffer.new) }
         ensures discarded { IfSome result (λ n. ChangesSlot SlotDiscards index self.old self.new) }
         ensures none { IfNone result (self.new ≡ self.old) }
+        ensures silent { IfNone result (OfClient IsDrained self.old index) }
     {
         if index < self.hooks.len() {
             self.hooks[index].discard(buffer)

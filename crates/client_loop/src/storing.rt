@@ -21,7 +21,7 @@ impl<D: Disk, P: Protocol, Q: Protocol, S: Stream> Service<D, P, Q, S> {
     /// Refusal (Sessions and programs): `client_loop::Service::{commit, step, turn_over}`
     /// When: as `Store::commit`, `act_store::take` and `Store::turn_over`
     /// Afterwards: as theirs; the history of the service stays
-    /// By: `client_loop::Service::{commit, turn_over}`, `refused`, `broken`, `cause`, `quiet`; `client_loop::Service::step`, `takes`
+    /// By: `client_loop::Service::{commit, turn_over}`, `refused`, `broken`, `cause`, `unchanged`, `quiet`; `client_loop::Service::step`, `takes`
     pub fn commit(&mut self) -> Result<u64, Refusal>
         ensures survives { Survives D.honest D.moment D.images_since self.old self.new }
         ensures quiet { IsQuiet self.old self.new }
@@ -50,7 +50,8 @@ impl<D: Disk, P: Protocol, Q: Protocol, S: Stream> Service<D, P, Q, S> {
     pub fn turn_over(&mut self) -> Result<(), Refusal>
         ensures turned { OnOk result (self.new ≡ record self.old { store = turned_over self.old.store; past = history_of self.old }) }
         ensures refused { IfSome (refusal_of_turn_over self.old.store) (λ refusal. result ≡ Err refusal) }
-        ensures cause { IfErr result (λ e. (refusal_of_turn_over self.old.store ≡ Some e) × (self.new ≡ self.old)) }
+        ensures cause { IfErr result (λ e. refusal_of_turn_over self.old.store ≡ Some e) }
+        ensures unchanged { OnErr result (self.new ≡ self.old) }
         ensures survives { Survives D.honest D.moment D.images_since self.old self.new }
         ensures quiet { IsQuiet self.old self.new }
     {

@@ -2,6 +2,7 @@
 
 ghost use Rattle.std.specs.Prelude.{◌≡◌, ◌≤◌, ℕ, List, Option, IfNone, IfSome, length, take, vec_len};
 ghost use Rattle.std.specs.Io.KnownBytes.{Appends, Consumes};
+ghost use Rattle.client_loop.specs.Streams.{GivesNothing};
 
 /// The stream of one client. Neither call waits: what has not come yet, or is not taken, is tried again later.
 pub trait Stream: Drop {
@@ -11,11 +12,13 @@ pub trait Stream: Drop {
     /// All bytes that were written, where they are known.
     ghost contents: { Self → Option (List ℕ) };
 
-    /// Reads once into a buffer. Returns how many bytes came, or `None` if nothing was read.
+    /// Reads once into a buffer. Returns how many bytes came, or `None` if nothing was read. Where it is known what it gives, it gives
+    /// something until all is given.
     fn read(&mut self, buffer: &mut Vec<u8>) -> Option<usize>
         ensures bound { IfSome result (λ n. n ≤ vec_len buffer.new) }
         ensures bytes { IfSome result (λ n. Consumes (remaining self.old) (remaining self.new) (take n buffer.new.items)) }
         ensures none { IfNone result (remaining self.new ≡ remaining self.old) }
+        ensures silent { IfNone result (GivesNothing (remaining self.old)) }
         ensures kept { contents self.new ≡ contents self.old };
 
     /// Writes the bytes in order, as many as the stream takes, and returns how many these are.

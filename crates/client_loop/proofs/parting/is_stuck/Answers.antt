@@ -7,7 +7,7 @@ use Rattle.client_loop.proofs.parting.is_stuck.Goals as goal
 
 pub returns-in-Err-Numbered-FailedEarlier-clause-failed : goal.returns-in-Err-Numbered-FailedEarlier-clause-failed
 returns-in-Err-Numbered-FailedEarlier-clause-failed g c = λ so.
-    failed_refusal c.args.store.now (rw c.in-Err-Numbered-FailedEarlier.field-0-is at c.in-Err-Numbered-FailedEarlier.ensures.cause)
+    failed_refusal c.args.store.now (rw (c.in-Err-Numbered-FailedEarlier.field-0-is, c.in-Err-Numbered-FailedEarlier.field-0-0-is) at c.in-Err-Numbered-FailedEarlier.ensures.cause)
 
 pub returns-in-Err-Numbered-FailedEarlier-clause-pending : goal.returns-in-Err-Numbered-FailedEarlier-clause-pending
 returns-in-Err-Numbered-FailedEarlier-clause-pending g c = λ so.

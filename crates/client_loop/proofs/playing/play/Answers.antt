@@ -1,10 +1,9 @@
-use Rattle.std.proofs.Common.{◌∙◌, ◌++◌, ◌∷◌, [], ℕ, List, ap, refl, subst, sym, take}
-use Rattle.std.proofs.lemmas.List.{take_more}
+use Rattle.std.proofs.Common.{◌∙◌, ℕ, get_or, refl, subst, take}
 use Rattle.client_loop.specs.Conversation.{Conversation}
-use Rattle.client_loop.specs.Events.{Happens, Plays, Survives}
+use Rattle.client_loop.specs.Events.{Happens, Survives}
 use Rattle.client_loop.specs.Slots.{by_port}
-use Rattle.client_loop.specs.declared.event.Event.{Event}
-use Rattle.client_loop.proofs.Happening.{plays_more, plays_survive, stays_promised}
+use Rattle.client_loop.proofs.Happening.{plays_next, plays_survive, stays_promised}
+use Rattle.client_loop.specs.declared.event.Event.TheVariants.{Joins}
 use Rattle.client_loop.proofs.playing.play.Goals as goal
 
 pub loop-event-preserved : goal.loop-event-preserved
@@ -14,13 +13,10 @@ loop-event-preserved g c =
     let disk = g.D.Disk in
     let during = Survives disk.honest disk.moment disk.images_since in
     let l = c.loop-event in
-    let events = c.args.events.now in
-    let e = c.event-item.result in
-    let happens : Happens p l.service e c.happen.new.service =
-    subst (λ (hooks : ℕ). Happens (follows_by hooks) l.service e c.happen.new.service) l.invariant.1 c.happen.ensures.happens in (
-      subst (λ (es : List Event). Plays during p c.args.service.now es c.happen.new.service)
-          (sym (take_more events l.event-index e c.loop-event-test.true ∙ ap (λ (x : Event). take l.event-index events ++ x ∷ []) (sym c.event-item.is)))
-          (plays_more during p c.args.service.now l.service c.happen.new.service (take l.event-index events) e l.invariant.0 happens c.happen.ensures.survives),
+    let events = c.args.events.now in (
+      plays_next during p c.args.service.now l.service c.happen.new.service events l.event-index (Joins 0) c.loop-event-test.true l.invariant.0
+          (subst (λ (hooks : ℕ). Happens (follows_by hooks) l.service (get_or events l.event-index (Joins 0)) c.happen.new.service) l.invariant.1
+          c.happen.ensures.happens) c.happen.ensures.survives,
       c.happen.ensures.survives.grows.hooks ∙ l.invariant.1,
     )
 

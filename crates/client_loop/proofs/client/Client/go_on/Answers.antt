@@ -1,5 +1,5 @@
-use Rattle.std.proofs.Common.{◌≡◌, ◌∙◌, [], ap, false, refl, subst, take, true}
-use Rattle.client_loop.specs.Clients.{ClientHears, ClientState, Wire, wire_of}
+use Rattle.std.proofs.Common.{◌≡◌, ◌∙◌, [], ap, false, refl, subst}
+use Rattle.client_loop.specs.Clients.{ClientHears, ClientState, wire_of}
 use Rattle.client_loop.specs.Conversation.{Follows}
 use Rattle.std.proofs.KnownBytes.{Consumes-nil}
 use Rattle.client_loop.proofs.client.Client.go_on.Goals as goal

@@ -1,4 +1,4 @@
-use Rattle.std.proofs.Common.{◌≡◌, ◌∙◌, [], ap, false, refl, subst, take, true}
+use Rattle.std.proofs.Common.{◌≡◌, ◌∙◌, ap, false, refl, subst, take}
 use Rattle.client_loop.specs.Clients.{ClientHears, ClientState, Wire, wire_of}
 use Rattle.client_loop.specs.Conversation.{Follows}
 use Rattle.client_loop.proofs.client.Client.hear_from.Goals as goal

@@ -1,4 +1,4 @@
-use Rattle.std.proofs.Common.{◌≡◌, ◌∙◌, Bool, ap, false, refl, subst, sym, true}
+use Rattle.std.proofs.Common.{◌≡◌, ◌∙◌, ap, false, subst, true}
 use Rattle.std.specs.Prelude.{IfErr}
 use Rattle.act_disk.specs.Failed.{device_failed}
 use Rattle.act_store.specs.StoreState.{StoreState}

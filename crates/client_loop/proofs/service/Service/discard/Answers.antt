@@ -1,12 +1,12 @@
-use Rattle.std.proofs.Common.{ℕ, refl, subst}
-use Rattle.std.specs.Prelude.{IfSome}
-use Rattle.client_loop.specs.Clients.{SlotDiscards, SlotState}
+use Rattle.std.proofs.Common.{ℕ, refl, rules, subst}
+use Rattle.std.specs.Prelude.{IfNone, IfSome}
+use Rattle.client_loop.specs.Clients.{IsDrained, SlotDiscards}
 use Rattle.client_loop.specs.Events.{Survives}
 use Rattle.client_loop.specs.Service.{ServiceDiscards, ServiceState}
 use Rattle.client_loop.proofs.Happening.{changes_some, stays}
 use Rattle.client_loop.proofs.Machine.{service_discards_some}
-use Rattle.client_loop.proofs.PortSlots.{some_then}
-use Rattle.client_loop.specs.Slots.{by_port}
+use Rattle.client_loop.proofs.PortSlots.{no_slot, some_then}
+use Rattle.client_loop.specs.Slots.{OfClient, by_port}
 use Rattle.client_loop.proofs.service.Service.discard.Goals as goal
 
 pub invariant_of-self : goal.invariant_of-self
@@ -45,3 +45,12 @@ returns-then-not-has-clause-survives g c =
     let k = c.covered-covered.ensures in
     subst (λ (o : ServiceState g.row.D.Denot). Survives disk.honest disk.moment disk.images_since o o) c.self.view_is
     (stays p disk.honest disk.moment disk.images_since disk.images g.met.D.Disk.only_now s c.self.invariant k.within k.legal k.promise s refl)
+
+pub returns-then-not-has-clause-silent : goal.returns-then-not-has-clause-silent
+returns-then-not-has-clause-silent g c =
+    subst (λ (o : ServiceState g.row.D.Denot). OfClient IsDrained o.slots c.args.index) c.self.view_is
+    (no_slot IsDrained c.self.inside.slots c.args.index c.has.result c.has.ensures (search rules))
+
+pub returns-clause-silent : goal.returns-clause-silent
+returns-clause-silent g c =
+    subst (λ (o : ServiceState g.row.D.Denot). IfNone c.discard.result (OfClient IsDrained o.slots c.args.index)) c.self.view_is c.discard.ensures.silent

@@ -1,9 +1,11 @@
-use Rattle.std.proofs.Common.{ℕ, [], ◌<◌, length, refl, rules, subst, sym}
+use Rattle.std.proofs.Common.{ℕ, [], refl, rules, subst}
 use Rattle.client_loop.specs.Events.{Survives}
 use Rattle.client_loop.specs.Service.{ServiceHears, ServiceState}
 use Rattle.client_loop.proofs.Happening.{hears_or_not, stays}
 use Rattle.client_loop.proofs.Machine.{service_hears_or_not}
-use Rattle.client_loop.specs.Slots.{by_port}
+use Rattle.client_loop.proofs.PortSlots.{no_slot}
+use Rattle.client_loop.specs.Clients.{IsOver}
+use Rattle.client_loop.specs.Slots.{OfClient, by_port}
 use Rattle.client_loop.proofs.service.Service.go_on.Goals as goal
 
 pub invariant_of-self : goal.invariant_of-self
@@ -12,7 +14,7 @@ invariant_of-self g c =
     let s : ServiceState g.row.D.Denot = record { store = f.store; origin = f.first.value.base; past = f.past; slots = f.slots } in
     service_hears_or_not (λ (hooks : ℕ). by_port hooks g.P.Protocol.rules g.Q.Protocol.rules) s c.self.invariant
     c.covered-covered.ensures.within c.args.index c.go_on.new.store c.go_on.new.self
-    (subst (λ (o : ServiceState g.row.D.Denot). c.args.index < length o.slots.all) (sym c.self.view_is) (c.has.ensures.0 (search rules)))
+    (c.has.ensures.0 (search rules))
     [] c.go_on.result c.go_on.ensures.heard c.go_on.ensures.same
 
 pub returns-clause-heard : goal.returns-clause-heard
@@ -44,3 +46,12 @@ returns-then-not-has-clause-survives g c =
     let k = c.covered-covered.ensures in
     subst (λ (o : ServiceState g.row.D.Denot). Survives disk.honest disk.moment disk.images_since o o) c.self.view_is
     (stays p disk.honest disk.moment disk.images_since disk.images g.met.D.Disk.only_now s c.self.invariant k.within k.legal k.promise s refl)
+
+pub returns-then-not-has-clause-over : goal.returns-then-not-has-clause-over
+returns-then-not-has-clause-over g c = λ so.
+    subst (λ (o : ServiceState g.row.D.Denot). OfClient IsOver o.slots c.args.index) c.self.view_is
+    (no_slot IsOver c.self.inside.slots c.args.index c.has.result c.has.ensures (search rules))
+
+pub returns-clause-over : goal.returns-clause-over
+returns-clause-over g c = λ so.
+    subst (λ (o : ServiceState g.row.D.Denot). OfClient IsOver o.slots c.args.index) c.self.view_is (c.go_on.ensures.over so)

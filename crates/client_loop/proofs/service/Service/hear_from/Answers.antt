@@ -1,11 +1,12 @@
 use Rattle.std.proofs.Common.{ℕ, ◌<◌, length, refl, rules, subst, sym, take}
-use Rattle.std.specs.Prelude.{IfSome}
+use Rattle.std.specs.Prelude.{IfNone, IfSome, slice_get}
+use Rattle.client_loop.specs.Clients.{IsUnheard}
 use Rattle.client_loop.specs.Events.{Survives}
 use Rattle.client_loop.specs.Service.{ServiceHears, ServiceState}
 use Rattle.client_loop.proofs.Happening.{hears_some, stays}
 use Rattle.client_loop.proofs.Machine.{service_hears_some}
-use Rattle.client_loop.proofs.PortSlots.{some_then}
-use Rattle.client_loop.specs.Slots.{by_port}
+use Rattle.client_loop.proofs.PortSlots.{none_then, not_awaited, silent_unheard, some_then}
+use Rattle.client_loop.specs.Slots.{OfClient, by_port, client_in}
 use Rattle.client_loop.proofs.service.Service.hear_from.Goals as goal
 
 pub invariant_of-self : goal.invariant_of-self
@@ -47,3 +48,12 @@ returns-then-not-awaits_input-clause-survives g c =
     let k = c.covered-covered.ensures in
     subst (λ (o : ServiceState g.row.D.Denot). Survives disk.honest disk.moment disk.images_since o o) c.self.view_is
     (stays p disk.honest disk.moment disk.images_since disk.images g.met.D.Disk.only_now s c.self.invariant k.within k.legal k.promise s refl)
+
+pub returns-then-not-awaits_input-clause-unheard : goal.returns-then-not-awaits_input-clause-unheard
+returns-then-not-awaits_input-clause-unheard g c =
+    not_awaited (client_in (slice_get c.args.self.now.slots.all c.args.index)) c.awaits_input.result c.awaits_input.ensures.exact (search rules)
+
+pub returns-clause-unheard : goal.returns-clause-unheard
+returns-clause-unheard g c =
+    subst (λ (o : ServiceState g.row.D.Denot). IfNone c.hear_from.result (OfClient IsUnheard o.slots c.args.index)) c.self.view_is
+    (none_then c.hear_from.result _ _ (silent_unheard (client_in (slice_get c.self.inside.slots.all c.args.index))) c.hear_from.ensures.silent)

@@ -1,4 +1,4 @@
-use Rattle.std.proofs.Common.{ℕ, ap, refl, subst}
+use Rattle.std.proofs.Common.{ℕ, refl, subst}
 use Rattle.client_loop.specs.Clients.{SlotJoins, wire_of}
 use Rattle.client_loop.specs.Events.{Survives}
 use Rattle.client_loop.specs.Service.{ServiceJoins, ServiceState}

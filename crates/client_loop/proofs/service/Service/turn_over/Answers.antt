@@ -1,11 +1,11 @@
 use Rattle.std.proofs.Common.{◌≡◌, ◌∙◌, List, ap, rules, subst, sym}
-use Rattle.std.specs.Prelude.{None, Some}
+use Rattle.std.specs.Prelude.{None}
 use Rattle.act_store.specs.Plain.{refusal_of_turn_over, turned_over}
 use Rattle.act_store.specs.declared.entry.Entry.{Entry}
 use Rattle.act_store.specs.StoreState.{StoreState}
 use Rattle.client_loop.specs.Events.{IsQuiet, Survives}
 use Rattle.client_loop.proofs.Happening.{stays, still_quiet, turns, turns_survive}
-use Rattle.client_loop.proofs.QuietSteps.{turns_live}
+use Rattle.client_loop.proofs.QuietSteps.{on_err, turns_live}
 use Rattle.client_loop.proofs.Machine.{all_covered, service_turns}
 use Rattle.client_loop.specs.Service.{IsService, ServiceState, history_of}
 use Rattle.client_loop.specs.Slots.{by_port}
@@ -87,5 +87,8 @@ returns-clause-turned g c =
     (ap (λ (t : StoreState g.row.D.Denot). record s { store = t; past = c.with-past.result }) c.in_ok-turn_over.ensures.turned
     ∙ ap (λ (l : List Entry). record s { store = turned_over s.store; past = l }) c.with-past.ensures)
 
-pub returns-in_err-turn_over-clause-cause : goal.returns-in_err-turn_over-clause-cause
-returns-in_err-turn_over-clause-cause g c = ?
+pub returns-in_err-turn_over-clause-unchanged : goal.returns-in_err-turn_over-clause-unchanged
+returns-in_err-turn_over-clause-unchanged g c =
+    let f = c.self.inside in
+    let s : ServiceState g.row.D.Denot = record { store = f.store; origin = f.first.value.base; past = f.past; slots = f.slots } in
+    on_err _ (ap (λ (t : StoreState g.row.D.Denot). record s { store = t }) c.in_err-turn_over.ensures.unchanged ∙ c.self.view_is)

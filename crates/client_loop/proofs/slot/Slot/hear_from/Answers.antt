@@ -1,6 +1,6 @@
-use Rattle.std.proofs.Common.{◌≡◌, ◌∙◌, Bool, List, ap, sym}
-use Rattle.std.specs.Prelude.{Option, Some, map}
-use Rattle.client_loop.specs.Clients.{ClientState, SlotState, with_client}
+use Rattle.std.proofs.Common.{◌≡◌, ◌∙◌, Bool, List, ap, subst, sym}
+use Rattle.std.specs.Prelude.{IfSome, Option, Some, map}
+use Rattle.client_loop.specs.Clients.{ClientState, IsSilent, SlotState, with_client}
 use Rattle.client_loop.proofs.PortSlots.{none_then, some_then}
 use Rattle.client_loop.proofs.slot.Slot.hear_from.Goals as goal
 
@@ -17,3 +17,9 @@ returns-clause-none g c =
     let client : ClientState = c.in-Some.client in
     let here : c.args.self.now.client ≡ Some client = ap (λ (s : SlotState). s.client) (sym c.self.view_is) ∙ c.in-Some.is in
     none_then c.hear_from.result _ _ (λ same. (ap (λ (o : Option ClientState). record { earlier = earlier; client = o }) (ap (λ (x : ClientState). Some x) same.0 ∙ sym c.in-Some.is) ∙ c.self.view_is, same.1)) c.hear_from.ensures.none
+
+pub returns-clause-silent : goal.returns-clause-silent
+returns-clause-silent g c =
+    let client : ClientState = c.in-Some.client in
+    let here : c.args.self.now.client ≡ Some client = ap (λ (s : SlotState). s.client) (sym c.self.view_is) ∙ c.in-Some.is in
+    none_then c.hear_from.result _ _ (λ so. subst (λ (o : Option ClientState). IfSome o IsSilent) (sym here) (λ _. so)) c.hear_from.ensures.silent

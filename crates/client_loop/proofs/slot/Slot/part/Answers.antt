@@ -1,5 +1,5 @@
 use Rattle.std.proofs.Common.{◌≡◌, ◌∙◌, Bool, List, ap, sym}
-use Rattle.std.specs.Prelude.{Option, Some, map}
+use Rattle.std.specs.Prelude.{Some, map}
 use Rattle.client_loop.specs.Clients.{ClientState, SlotState, with_client}
 use Rattle.client_loop.proofs.slot.Slot.part.Goals as goal
 
