@@ -13,8 +13,8 @@ use Rattle.covered_log.proofs.Telling.{all_of_both}
 use Rattle.covered_log.specs.Lines.{Change, entries_in, entries_of, with_all, with_more}
 use Rattle.covered_log.specs.Standings.{table_news}
 use Rattle.table_model.specs.TableState.{TableState}
-use Rattle.table_views.specs.LeaseNames.{NamesState}
-use Rattle.service_views.specs.Following.{NoteOf, NotesOf, TellsOrForgets, cancelled_by, cancelled_in, entered, told_of}
+use Rattle.service_views.specs.GivenLeases.{LeasesState, NoteOf, NotesOf}
+use Rattle.service_views.specs.Following.{TellsOrForgets, cancelled_by, cancelled_in, entered, told_of}
 use Rattle.service_views.specs.declared.changes.Changes.{Changes}
 
 -- the entries from an index to the next place
@@ -53,13 +53,13 @@ taken_up cs at (e ∷ es) room =
     ∙ ap (λ (xs : List (Command × Reply)). xs ++ map told_of es) (flat_map-append entries_in cs (entered at e ∷ []))
     ∙ append_assoc (entries_of cs) (told_of e ∷ []) (map told_of es)
 
--- names are noted of some entries, and then of another
-notes_more : (es : List Entry) (e : Entry) (old mid new : NamesState) → NotesOf es old mid → NoteOf e mid new → NotesOf (es ++ e ∷ []) old new
-notes_more [] e old mid new same note = (new, subst (λ (s : NamesState). NoteOf e s new) same note, refl)
+-- leases are given by some entries, and then by another
+notes_more : (es : List Entry) (e : Entry) (old mid new : LeasesState) → NotesOf es old mid → NoteOf e mid new → NotesOf (es ++ e ∷ []) old new
+notes_more [] e old mid new same note = (new, subst (λ (s : LeasesState). NoteOf e s new) same note, refl)
 notes_more (x ∷ es) e old mid new notes note = (notes.0, notes.1, notes_more es e notes.0 mid new notes.2 note)
 
--- the names of the next entry of a history
-pub notes_next_name : (history : List Entry) (from place : ℕ) (e : Entry) (old mid new : NamesState) → from ≤ place
+-- the leases of the next entry of a history
+pub notes_next_name : (history : List Entry) (from place : ℕ) (e : Entry) (old mid new : LeasesState) → from ≤ place
     → slice_get history place ≡ Some e → NotesOf (drop from (take place history)) old mid → NoteOf e mid new
     → NotesOf (drop from (take (place + 1) history)) old new
 notes_next_name history from place e old mid new order is notes note =
@@ -74,7 +74,7 @@ tells_of at cancelled t changes others old mid new more stands (inl tells) =
       known = tells.known;
       were = sym stands ∙ tells.were;
       are = tells.are;
-      told = tells.told ∙ ap (λ (cs : List Change). with_all cs (table_news at cancelled new.names t tells.known)) more;
+      told = tells.told ∙ ap (λ (cs : List Change). with_all cs (table_news at cancelled new.leases.names t tells.known)) more;
     })
 tells_of at cancelled t changes others old mid new more stands (inr none) = inr none
 

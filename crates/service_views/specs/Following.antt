@@ -1,15 +1,11 @@
 -- How the changes of a service follow the history and the table of its store.
 use Rattle.std.specs.Prelude.{◌≡◌, ◌⊎◌, ℕ, ◌+◌, ◌<◌, ◌^◌, List, [], ◌∷◌, ◌++◌, filter_map, length, map, Option, None, Some}
-use Rattle.std.specs.Option.{option_map_or}
-use Rattle.run_plan.specs.declared.command.Claim.{Claim}
 use Rattle.run_plan.specs.declared.command.Command.{Command}
 use Rattle.run_plan.specs.declared.command.Command.TheVariants as command
-use Rattle.run_plan.specs.declared.reply.Lease.{Lease}
 use Rattle.run_plan.specs.declared.reply.Reply.{Reply}
 use Rattle.run_plan.specs.declared.reply.Reply.TheVariants as reply
 use Rattle.act_store.specs.declared.entry.Entry.{Entry}
 use Rattle.table_model.specs.TableState.{TableState}
-use Rattle.table_views.specs.LeaseNames.{NamesState, no_names, noted}
 use Rattle.covered_log.specs.Lines.{Change, Entered, entries_of, with_all}
 use Rattle.covered_log.specs.LogState.{LogState}
 use Rattle.covered_log.specs.Standings.{Standing, table_news, told_after}
@@ -41,8 +37,8 @@ cancelled_in entries = filter_map (λ e. cancelled_by e.command e.reply) entries
 pub record TellsTable (at : ℕ) (cancelled : List ℕ) (t : TableState) (changes : List Change) (old new : Changes) : Type 0 where
   pub known : List Standing
   pub were : old.standings ≡ Some known
-  pub are : new.standings ≡ Some (told_after new.names t known)
-  pub told : new.log.changes ≡ with_all changes (table_news at cancelled new.names t known)
+  pub are : new.standings ≡ Some (told_after new.leases.names t known)
+  pub told : new.log.changes ≡ with_all changes (table_news at cancelled new.leases.names t known)
 
 -- No line is kept: every reader has to list again.
 abbrev pub KeepsNoLine : Changes → Type 0
@@ -55,27 +51,3 @@ TellsOrForgets at cancelled t changes old new = TellsTable at cancelled t change
 -- The entries are told with the time of their commit, and then the table; or there was no memory for it.
 abbrev pub Tells : ℕ → TableState → List Entry → Changes → Changes → Type 0
 Tells at t entries old new = TellsOrForgets at (cancelled_in entries) t (with_all old.log.changes (map (entered at) entries)) old new
-
--- ---- the runners of leases
-
-abbrev pub claim_of : Command → Option Claim
-claim_of (command.Claim claim) = Some claim
-claim_of _ = None
-
-abbrev pub lease_of : Reply → Option Lease
-lease_of (reply.Lease lease) = Some lease
-lease_of _ = None
-
--- the runner to which an entry gives a lease, if it does
-abbrev pub noted_of : Entry → NamesState → NamesState
-noted_of e names =
-    option_map_or (λ claim. option_map_or (λ lease. noted names lease.lease claim.runner) (lease_of e.reply) names) (claim_of e.command) names
-
--- The name of the runner is noted, or without memory nothing is known any more.
-abbrev pub NoteOf : Entry → NamesState → NamesState → Type 0
-NoteOf e old new = (new ≡ noted_of e old) ⊎ (new ≡ no_names)
-
--- the names after entries, one after the other
-abbrev pub NotesOf : List Entry → NamesState → NamesState → Type 0
-NotesOf [] old new = new ≡ old
-NotesOf (e ∷ es) old new = (mid : NamesState) × NoteOf e old mid × NotesOf es mid new

@@ -10,11 +10,11 @@ use Rattle.run_plan.specs.declared.command.Command.TheVariants as command
 use Rattle.act_store.specs.StoreState.{StoreState, table_of}
 use Rattle.act_store.specs.declared.entry.Entry.{Entry}
 use Rattle.table_model.specs.TableState.{TableState}
-use Rattle.table_views.specs.LeaseNames.{no_names}
 use Rattle.covered_log.specs.LogState.{new_log}
 use Rattle.covered_log.specs.Standings.{standing_of}
 use Rattle.service_metrics.specs.Counters.{CountersState, Done, counters_of, nothing_done}
-use Rattle.service_views.specs.Following.{NotesOf, TakesUp, Tells}
+use Rattle.service_views.specs.Following.{TakesUp, Tells}
+use Rattle.service_views.specs.GivenLeases.{NotesOf, none_since}
 use Rattle.service_views.specs.declared.kept.Kept.{Kept}
 
 -- ---- what is counted
@@ -65,7 +65,7 @@ covered_after taken s = drop taken (take s.covered s.history)
 pub record Begins (process : ℕ) (t : TableState) (now : Instant) (k : Kept) : Type 0 where
   pub log : k.changes.log ≡ new_log process
   pub standings : k.changes.standings ≡ Some (map standing_of t.runs)
-  pub names : k.changes.names ≡ no_names
+  pub leases : k.changes.leases ≡ none_since t.last_lease
   pub taken : k.changes.taken ≡ 0
   pub counters : k.counters ≡ counters_of nothing_done
   pub began : k.began ≡ now
@@ -75,7 +75,7 @@ pub record Begins (process : ℕ) (t : TableState) (now : Instant) (k : Kept) : 
 pub record GoesOn {D : Type 0} (s : StoreState D) (at : ℕ) (now : Instant) (old new : Kept) : Type 0 where
   pub entered : TakesUp (covered_after old.changes.taken s) old.changes.log new.changes.log
   pub told : (s.covered ≡ old.changes.taken) ⊎ Tells at (table_of s) (covered_after old.changes.taken s) old.changes new.changes
-  pub names : NotesOf (covered_after old.changes.taken s) old.changes.names new.changes.names
+  pub leases : NotesOf (covered_after old.changes.taken s) old.changes.leases new.changes.leases
   pub taken : new.changes.taken ≡ s.covered
   pub counts : Counts (covered_after old.changes.taken s) old.counters new.counters
   pub hears : Hears (covered_after old.changes.taken s) now old new

@@ -2,6 +2,7 @@
 pub mod Behind
 pub mod Boards
 pub mod Following
+pub mod GivenLeases
 pub mod HeardTimes
 pub mod Keeping
 pub mod Shown

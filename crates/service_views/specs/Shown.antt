@@ -168,7 +168,7 @@ later q is_over = record { after = q.after; wait = if is_over then 0 else 1 }
 -- what a service shows that has kept this, and is seen so; whether the head alone is asked for
 abbrev pub Shows : Kept → Seen → Bool → View → Made → Type 0
 Shows k s head_only (view.Runs q) = IsJson (IsRunsPage q.filter q.before (rows q.limit) s.table.now)
-Shows k s head_only (view.Run q) = ShowsRun k.changes.names s.table.now q
+Shows k s head_only (view.Run q) = ShowsRun k.changes.leases.names s.table.now q
 Shows k s head_only (view.Body run) = ShowsBody (run_body s.table.now.runs run)
 Shows k s head_only (view.Queue q) = IsJson (IsReadyPage q.from (rows q.limit) s.table.now)
 Shows k s head_only (view.Runners q) = ShowsRunners k s.now s.table.now q

@@ -1,40 +1,23 @@
 //! The changes of a service: its covered entries, and the runs and legs that they have changed, as lines.
 
-ghost use Rattle.std.specs.Prelude.{◌≡◌, ◌++◌, ◌∷◌, [], IfOk, OnOk, Some, drop, map, option_map, take};
+ghost use Rattle.std.specs.Prelude.{◌≡◌, ◌++◌, ◌∷◌, [], IfOk, OnOk, Some, drop, map, take};
 ghost use Rattle.act_store.specs.StoreState.{table_of};
 ghost use Rattle.covered_log.specs.Lines.{entries_of, with_all, with_more};
 ghost use Rattle.covered_log.specs.LogState.{new_log};
 ghost use Rattle.covered_log.specs.Standings.{standing_of};
-ghost use Rattle.table_views.specs.LeaseNames.{no_names};
-ghost use Rattle.service_views.specs.Following.{KeepsNoLine, NoteOf, NotesOf, TakesUp, Tells, TellsOrForgets, TellsTable, cancelled_by, cancelled_in, claim_of, entered, lease_of};
+ghost use Rattle.service_views.specs.Following.{KeepsNoLine, TakesUp, Tells, TellsOrForgets, TellsTable, cancelled_by, cancelled_in, entered};
+ghost use Rattle.service_views.specs.GivenLeases.{NoteOf, NotesOf, none_since};
 
+use crate::given_leases::GivenLeases;
 use act_disk::Disk;
 use act_store::{Entry, Store};
 use covered_log::{CoveredLog, Look, Standings};
-use run_plan::{BoxedLease, Claim, Command, Number, Reply};
+use run_plan::{Command, Number, Reply};
 use run_table::Table;
 use std::alloc::{AllocError, Global};
 use std::mem;
 use table_views::LeaseNames;
 use wf_value::{Code, Refusal};
-
-fn claim_of(command: &Command) -> Option<&Claim>
-    ensures { option_map (λ claim. claim.now) result ≡ claim_of command.now }
-{
-    match command {
-        Command::Claim(claim) => Some(claim),
-        _ => None,
-    }
-}
-
-fn lease_of(reply: &Reply) -> Option<&BoxedLease>
-    ensures { option_map (λ lease. lease.now) result ≡ lease_of reply.now }
-{
-    match reply {
-        Reply::Lease(lease) => Some(lease),
-        _ => None,
-    }
-}
 
 /// The run that an entry has cancelled, if it has.
 fn cancelled_by(command: &Command, reply: &Reply) -> Option<Number>
@@ -79,8 +62,7 @@ pub(crate) struct Changes {
     log: CoveredLog,
     /// How the runs stood when they were last told; `None` if there was no memory to know it.
     standings: Option<Standings>,
-    /// The runners of the leases that were given since the service began, as far as they are known.
-    names: LeaseNames,
+    leases: GivenLeases,
     /// How many entries of the present history were taken up.
     taken: u64,
 }
@@ -89,13 +71,13 @@ impl Changes {
     pub(crate) fn new(alloc: Global, process: u64, table: &Table) -> Result<Changes, AllocError>
         ensures log { IfOk result (λ changes. changes.log ≡ new_log process) }
         ensures standings { IfOk result (λ changes. changes.standings ≡ Some (map standing_of table.now.runs)) }
-        ensures names { IfOk result (λ changes. changes.names ≡ no_names) }
+        ensures leases { IfOk result (λ changes. changes.leases ≡ none_since table.now.last_lease) }
         ensures taken { IfOk result (λ changes. changes.taken ≡ 0) }
     {
         Ok(Changes {
             log: CoveredLog::new(alloc, process),
             standings: Some(Standings::of(alloc, table)?),
-            names: LeaseNames::new(alloc),
+            leases: GivenLeases::after(alloc, table),
             taken: 0,
         })
     }
@@ -120,36 +102,22 @@ impl Changes {
         }
     }
 
-    /// Notes the name of the runner to which an entry gives a lease. Without memory no name is known any more.
-    fn note(&mut self, alloc: Global, entry: &Entry)
-        ensures names { NoteOf entry.now self.old.names self.new.names }
-        ensures rest { self.new ≡ record self.old { names = self.new.names } }
-    {
-        let Some(claim) = claim_of(&entry.command) else {
-            return;
-        };
-        let Some(lease) = lease_of(&entry.reply) else {
-            return;
-        };
-        let _ = self.names.note(alloc, lease.get().lease, &claim.runner);
-    }
-
     /// Takes up an entry that was made durable.
     fn enter(&mut self, alloc: Global, at: u64, entry: &Entry)
         ensures told { self.new.log.changes ≡ with_more self.old.log.changes (entered at entry.now) }
-        ensures names { NoteOf entry.now self.old.names self.new.names }
+        ensures leases { NoteOf entry.now self.old.leases self.new.leases }
         ensures standings { self.new.standings ≡ self.old.standings }
         ensures taken { self.new.taken ≡ self.old.taken }
     {
         self.log.tell_entry(alloc, at, &entry.command, &entry.reply);
-        self.note(alloc, entry);
+        self.leases.note(alloc, entry);
     }
 
     /// Takes up the entries of a store that were made durable since the last time.
     fn enter_new<D: Disk>(&mut self, alloc: Global, store: &Store<D>, at: u64)
         ensures told { self.new.log.changes
             ≡ with_all self.old.log.changes (map (entered at) (drop self.old.taken (take store.now.covered store.now.history))) }
-        ensures names { NotesOf (drop self.old.taken (take store.now.covered store.now.history)) self.old.names self.new.names }
+        ensures leases { NotesOf (drop self.old.taken (take store.now.covered store.now.history)) self.old.leases self.new.leases }
         ensures standings { self.new.standings ≡ self.old.standings }
         ensures taken { self.new.taken ≡ store.now.covered }
     {
@@ -172,7 +140,7 @@ impl Changes {
     ) -> Result<Standings, Refusal>
         ensures told { IfOk result (λ standings. TellsTable at cancelled.now table.now self.old.log.changes (record self.old { standings = known })
             (record self.new { standings = Some standings })) }
-        ensures names { self.new.names ≡ self.old.names }
+        ensures leases { self.new.leases ≡ self.old.leases }
         ensures entries { entries_of self.new.log.changes ≡ entries_of self.old.log.changes }
         ensures taken { self.new.taken ≡ self.old.taken }
     {
@@ -183,7 +151,7 @@ impl Changes {
             at,
             table,
             cancelled,
-            names: &self.names,
+            names: self.leases.names(),
         };
         self.log.look(alloc, &look, &mut standings)?;
         Ok(standings)
@@ -192,7 +160,7 @@ impl Changes {
     /// Tells what the entries have made of the runs, of which commands have cancelled some. Without memory for that no lines are kept.
     fn look_new(&mut self, alloc: Global, at: u64, table: &Table, cancelled: &[Number])
         ensures told { TellsOrForgets at cancelled.now table.now self.old.log.changes self.old self.new }
-        ensures names { self.new.names ≡ self.old.names }
+        ensures leases { self.new.leases ≡ self.old.leases }
         ensures entries { entries_of self.new.log.changes ≡ entries_of self.old.log.changes }
         ensures taken { self.new.taken ≡ self.old.taken }
     {
@@ -212,7 +180,7 @@ impl Changes {
     fn look_since<D: Disk>(&mut self, alloc: Global, at: u64, store: &Store<D>, taken: u64)
         ensures told { TellsOrForgets at (cancelled_in (drop taken (take store.now.covered store.now.history))) (table_of store.now)
             self.old.log.changes self.old self.new }
-        ensures names { self.new.names ≡ self.old.names }
+        ensures leases { self.new.leases ≡ self.old.leases }
         ensures entries { entries_of self.new.log.changes ≡ entries_of self.old.log.changes }
         ensures taken { self.new.taken ≡ self.old.taken }
     {
@@ -229,16 +197,16 @@ impl Changes {
     /// Promise (Views of a service): Each time the service takes up what was made durable, the changes gain exactly the entries that the history
     ///   has between the last covered one then and now, in order, each once. This is so for the first 2^64 - 1 changes
     /// By: `service_views::changes::Changes::take_up`, `entered` (`TakesUp`), `taken`
-    /// Promise (Views of a service): The runner of a lease is the one to which a taken up entry gave it, if it is known. Without memory no name is
-    ///   known any more, and of leases those of the last 100,000
-    /// By: `service_views::changes::Changes::take_up`, `names` (`NotesOf`, `noted`)
+    /// Promise (Views of a service): The runner of a lease is the one to which a taken up entry gave it, if it is known; a lease that is only told
+    ///   again is not given. Without memory no name is known any more, and of leases those of the last 100,000
+    /// By: `service_views::changes::Changes::take_up`, `leases` (`NotesOf`, `given`, `noted`)
     /// Promise (Views of a service): After these entries the changes gain what is told of the table, all with the time of the commit, so that
     ///   readers know how it stands; without memory for that no line is kept
     /// By: `service_views::changes::Changes::take_up`, `told` (`Tells`, `table_news`, `cancelled_in`, `told_after`, `KeepsNoLine`)
     pub(crate) fn take_up<D: Disk>(&mut self, alloc: Global, store: &Store<D>, at: u64)
         ensures entered { TakesUp (drop self.old.taken (take store.now.covered store.now.history)) self.old.log self.new.log }
         ensures told { Tells at (table_of store.now) (drop self.old.taken (take store.now.covered store.now.history)) self.old self.new }
-        ensures names { NotesOf (drop self.old.taken (take store.now.covered store.now.history)) self.old.names self.new.names }
+        ensures leases { NotesOf (drop self.old.taken (take store.now.covered store.now.history)) self.old.leases self.new.leases }
         ensures taken { self.new.taken ≡ store.now.covered }
     {
         let taken = self.taken;
@@ -268,8 +236,8 @@ impl Changes {
 
     /// The runners of leases, as far as they are known.
     pub(crate) fn names(&self) -> &LeaseNames
-        ensures { result.now ≡ self.now.names }
+        ensures { result.now ≡ self.now.leases.names }
     {
-        &self.names
+        self.leases.names()
     }
 }

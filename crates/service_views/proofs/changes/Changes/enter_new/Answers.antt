@@ -20,8 +20,8 @@ loop-index-preserved g c =
                 ∙ ap (λ (cs : List Change). with_more cs (entered c.args.at w.in-Some.entry.now)) c.loop-index.invariant.told
                 ∙ told_next c.args.self.now.log.changes c.args.at c.args.store.now.history c.args.self.now.taken c.loop-index.index
                 w.in-Some.entry.now c.loop-index.auto.index found;
-            names = notes_next_name c.args.store.now.history c.args.self.now.taken c.loop-index.index w.in-Some.entry.now c.args.self.now.names
-                c.loop-index.self.names w.enter.new.self.names c.loop-index.auto.index found c.loop-index.invariant.names w.enter.ensures.names;
+            leases = notes_next_name c.args.store.now.history c.args.self.now.taken c.loop-index.index w.in-Some.entry.now c.args.self.now.leases
+                c.loop-index.self.leases w.enter.new.self.leases c.loop-index.auto.index found c.loop-index.invariant.leases w.enter.ensures.leases;
             standings = w.enter.ensures.standings ∙ c.loop-index.invariant.standings;
             taken = w.enter.ensures.taken ∙ c.loop-index.invariant.taken;
             stays = λ less. omega (arith, less, c.loop-index.auto.index, c.loop-index-test.true, c.covered-index-end.ensures.value);

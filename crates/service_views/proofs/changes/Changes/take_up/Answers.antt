@@ -2,8 +2,8 @@ use Rattle.std.proofs.Common.{◌∙◌, List, ap, drop, subst, sym, take}
 use Rattle.act_store.specs.StoreState.{table_of}
 use Rattle.act_store.specs.declared.entry.Entry.{Entry}
 use Rattle.covered_log.specs.Lines.{entries_of}
-use Rattle.service_views.specs.Following.{NotesOf, cancelled_in}
-use Rattle.table_views.specs.LeaseNames.{NamesState}
+use Rattle.service_views.specs.Following.{cancelled_in}
+use Rattle.service_views.specs.GivenLeases.{LeasesState, NotesOf}
 use Rattle.service_views.proofs.FollowingLemmas.{taken_up, tells_of}
 use Rattle.service_views.proofs.changes.Changes.take_up.Goals as goal
 
@@ -18,7 +18,7 @@ returns-clause-told g c =
     tells_of c.args.at (cancelled_in es) (table_of c.args.store.now) c.enter_new.new.self.log.changes _ c.args.self.now c.enter_new.new.self
     c.look_since.new.self c.enter_new.ensures.told c.enter_new.ensures.standings c.look_since.ensures.told
 
-pub returns-clause-names : goal.returns-clause-names
-returns-clause-names g c =
+pub returns-clause-leases : goal.returns-clause-leases
+returns-clause-leases g c =
     let es : List Entry = drop c.args.self.now.taken (take c.args.store.now.covered c.args.store.now.history) in
-    subst (λ (s : NamesState). NotesOf es c.args.self.now.names s) (sym c.look_since.ensures.names) c.enter_new.ensures.names
+    subst (λ (s : LeasesState). NotesOf es c.args.self.now.leases s) (sym c.look_since.ensures.leases) c.enter_new.ensures.leases
