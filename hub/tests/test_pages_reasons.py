@@ -78,6 +78,11 @@ def test_what_the_service_can_not_do_has_no_button_and_is_refused_in_words(stage
     assert stage.service.run(run)['attempt'] == 1
 
 
+def test_the_runners_page_has_times_in_words(stage: Stage) -> None:
+    text = shown(stage, '/runners', stage.hub.token('reader', 'read'))
+    assert 'not heard for over 2 minutes)' in text and ' 0s' not in text
+
+
 @pytest.mark.parametrize('action', ['cancel', 'rerun', 'rerun-failed', 'force-cancel', 'approve'])
 def test_who_may_not_act_is_refused(stage: Stage, action: str) -> None:
     run = stage.admit('Mine', jobs=NOBODY)
