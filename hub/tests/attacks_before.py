@@ -275,7 +275,7 @@ def slow_clients_of_webhooks(before: Before) -> tuple[bool, str]:
     """A thousand clients that send half a head of a webhook, and then nothing."""
     port = before.bridge()
     slow = silent(port, 1000, b'POST / HTTP/1.1\r\nHost: x\r\nX-Slow: ')
-    began, said = time.monotonic(), 'nothing'
+    began, said = time.monotonic(), 'not'
     with contextlib.suppress(OSError):
         said = str(post(port, 'push', 'd1', before.push()).status)
     took, threads = time.monotonic() - began, len(os.listdir(f'/proc/{before.processes[-1].id}/task'))
@@ -288,7 +288,7 @@ def slow_clients_of_the_proxy(before: Before) -> tuple[bool, str]:
     """A thousand strangers without a certificate who connect to HAProxy, and say nothing: a runner with its certificate."""
     port = before.proxy()
     slow = silent(port, 1100)
-    began, said = time.monotonic(), 'nothing'
+    began, said = time.monotonic(), 'not'
     with contextlib.suppress(OSError):
         said = over_tls(before, port, 'CLAIM build-1 1 linux', seconds=60)[0]
     took = time.monotonic() - began
