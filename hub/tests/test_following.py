@@ -204,36 +204,6 @@ def test_a_cursor_that_is_not_known_any_more_lists_again(tmp_path: pathlib.Path)
 
 
 @pytest.mark.quick
-def test_what_the_service_forgets_the_ledger_forgets(tmp_path: pathlib.Path) -> None:
-    """All runs up to the last one of the answer, with what is kept of them; and a runner that was discharged."""
-    async def test() -> None:
-        async with StandIn() as stand:
-            for number in range(1, 5):
-                stand.add(number)
-            async with mirrored(stand, tmp_path) as mirror:
-                await until(lambda: all(run.digest for run in mirror.runs.values()))
-                dropped: list[int] = []
-                mirror.dropped.append(dropped.append)
-                stand.say({'entry': 1, 'command': {'name': 'claim', 'runner': 'r1', 'number': 1, 'labels': ['linux', 'life-000000000000']}, 'reply': 'nothing', 'at': 1},
-                          {'entry': 2, 'command': {'name': 'forget', 'run': 999}, 'reply': 'forgotten 2', 'at': 2},
-                          {'entry': 3, 'command': {'name': 'forget', 'run': 1}, 'reply': 'forgotten 2', 'at': 3})
-                await until(lambda: 2 not in mirror.runs)
-                assert sorted(mirror.runs) == [3, 4] == [run.id for run in mirror.of('octo/hello')] and dropped == [1, 2]
-                assert mirror.runner_store.labels == {'r1': ('linux',)}
-                await until(mirror.database.flushed)
-                assert [mirror.kept.of(run) is None for run in (1, 2, 3, 4)] == [True, True, False, False]
-                stand.say({'entry': 4, 'command': {'name': 'forget', 'run': 3}, 'reply': 'refused 57', 'at': 4},
-                          {'entry': 5, 'command': {'name': 'discharge', 'runner': 'r2'}, 'reply': 'refused 42', 'at': 5},
-                          {'entry': 6, 'command': {'name': 'discharge', 'runner': 'r1'}, 'reply': 'ok', 'at': 6},
-                          {'entry': 7, 'command': {'name': 'forget', 'run': 3}, 'reply': 'forgotten 3', 'at': 7})
-                await until(lambda: 3 not in mirror.runs)
-                assert mirror.runner_store.labels == {} and dropped == [1, 2, 3] and sorted(mirror.runs) == [4]
-                await until(mirror.database.flushed)
-                assert mirror.database.read('select name from runners') == []
-    play(test())
-
-
-@pytest.mark.quick
 def test_whatever_the_service_says_the_mirror_goes_on(tmp_path: pathlib.Path, capfd: pytest.CaptureFixture[str]) -> None:
     async def test() -> None:
         async with StandIn() as stand:

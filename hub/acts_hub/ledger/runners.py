@@ -48,9 +48,3 @@ class RunnerStore:
         if name in self._asked:
             return self._asked[name]
         return self.labels.get(name) if labels is None else given(labels)
-
-    def discharged(self, name: str) -> list[Statement]:
-        """The service has forgotten a runner."""
-        for kept in (self.labels, self.seen_at, self._asked):
-            kept.pop(name, None)
-        return [('delete from runners where name = ?', (name,))]

@@ -125,19 +125,12 @@ class Changes:
             self._ended(command['lease'], command['result'], at)
         elif name == 'lost' and reply[0] == 'ok' and command['runner'] in self.leases.held:
             self._ended(self.leases.held[command['runner']], None, at)
-        elif name == 'forget' and reply[0] == 'forgotten':
-            self._forgotten(int(reply[1]))
-        elif name == 'discharge' and reply[0] == 'ok':
-            self._batch.extend(self.mirror.runner_store.discharged(command['runner']))
+        elif name == 'forget' and reply[0] != 'refused' and isinstance(command.get('run'), int):
+            self._batch.forget(command['run'])
+            self.attempts.pop(command['run'], None)
+            self._changed.add(command['run'])
         elif reply[0] == 'again' and len(reply) >= 3:
             self._again(int(reply[1]), int(reply[2]), at)
-
-    def _forgotten(self, last: int) -> None:
-        """The service has forgotten all runs up to one: what the ledger keeps of them goes too."""
-        for run in [run for run in self.mirror.runs if run <= last]:
-            self._batch.forget(run)
-            self.attempts.pop(run, None)
-            self._changed.add(run)
 
     def _claimed(self, runner: str, reply: tuple[str, ...], at: int | None) -> None:
         """A runner got a lease: `lease LEASE RUN JOB LEG COMBO`. The answer to a line that was sent again is not another lease."""
