@@ -155,6 +155,7 @@ def test_a_runner_finishes_its_leg_when_its_unit_is_stopped(host: Host) -> None:
     host.start('acts-runner@build')
     step = f'id -un > {place}/who; until test -e {place}/go; do sleep 0.1; done; cat /etc/acts/runner-build.token || echo closed >> {place}/who'
     run = host.admit('units-4', **{'runs-on': 'unit', 'steps': [{'run': step}]})
+    until(lambda: '(running)' in host.door(8080, f'/runs/{run}')[1], what='the leg')
     until(lambda: host.ask('test', '-s', f'{place}/who')[0] == 0, what='the step')
     host.machine.do('systemctl', 'stop', '--no-block', 'acts-runner@build')
     until(lambda: host.machine.show('acts-runner@build', 'ActiveState') == 'deactivating', what='the stop')
