@@ -59,7 +59,7 @@ class Before:
 
     def ends(self, run: int) -> str:
         """How a run ends."""
-        until(lambda: self.service.run(run)['conclusion'], what=f'the end of run {run}')
+        until(lambda: bool(self.service.run(run)['conclusion']), what=f'the end of run {run}')
         return str(self.service.run(run)['conclusion'])
 
     def bridge(self, spool: pathlib.Path | None = None) -> int:
