@@ -61,9 +61,14 @@ def free_ports(count: int) -> list[int]:
     raise AssertionError(f'there are no {count} free ports')
 
 
+def limit(seconds: float) -> float:
+    """When a wait for so many seconds ends. They are of a machine on which up to four processes wait for each processor; with more of them it lasts longer."""
+    return time.monotonic() + seconds * max(1.0, os.getloadavg()[0] / (4 * (os.cpu_count() or 1)))
+
+
 def until(test: Callable[[], Made], seconds: float = SECONDS, what: str = '') -> Made:
     """Waits until a test gives something; what fails to connect counts as nothing."""
-    late = time.monotonic() + seconds
+    late = limit(seconds)
     last: object = None
     while time.monotonic() < late:
         try:

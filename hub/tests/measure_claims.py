@@ -1,4 +1,4 @@
-"""How long a line of a runner takes through the hub, and how long without it: medians over 100 of each, in turns.
+"""How long a line of a runner takes through the hub, and how long without it: medians of 50 to 100 of each, in turns.
 
     ACTS=PROGRAM tests/measure_claims.py"""
 from __future__ import annotations
@@ -42,18 +42,17 @@ def main() -> None:
         for _ in range(COUNT):
             for name, call in kinds.items():
                 times[name].append(took(call))
-        for name in ('a claim that gets a leg, without a hub', 'the same leg through the hub'):
-            times[name] = []
-        for number in range(2 * COUNT // 3):
-            service.admit(body_of())
-            if number % 2:
+        for when, pause in (('that waits', 0.05), ('at once after its admission', 0.0)):
+            for number in range(COUNT):
+                service.admit(body_of())
+                time.sleep(pause)
                 words: list[str] = []
-                times['a claim that gets a leg, without a hub'].append(took(lambda: words.extend(direct.claim('d1'))))
-                direct.done('d1', words[1])
-            else:
-                words = []
-                times['the same leg through the hub'].append(took(lambda: words.extend(every.claim('h1'))))
-                every.done('h1', words[1])
+                if number % 2:
+                    times.setdefault(f'a claim that gets a leg {when}, without a hub', []).append(took(lambda: words.extend(direct.claim('d1'))))
+                    direct.done('d1', words[1])
+                else:
+                    times.setdefault(f'a claim that gets a leg {when}, through the hub', []).append(took(lambda: words.extend(every.claim('h1'))))
+                    every.done('h1', words[1])
         for name, found in times.items():
             print(f'{name}: median {statistics.median(found):.2f} ms, best {min(found):.2f} ms')
         print(f'load {os.getloadavg()[0]:.0f} of {os.cpu_count()} processors')

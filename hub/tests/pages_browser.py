@@ -8,7 +8,7 @@ import time
 from collections.abc import Callable, Iterator
 from typing import Any
 
-from harness import HubProcess
+from harness import HubProcess, limit
 from selenium import webdriver
 from selenium.common.exceptions import JavascriptException, NoSuchElementException, StaleElementReferenceException
 from selenium.webdriver.chrome.options import Options
@@ -92,7 +92,7 @@ class Browser:
 
     def until(self, test: Callable[[], Any], what: str, seconds: float = SECONDS) -> Any:
         """Waits until a test gives something."""
-        late = time.monotonic() + seconds
+        late = limit(seconds)
         while time.monotonic() < late:
             with contextlib.suppress(*PASSING):
                 if found := test():

@@ -15,7 +15,7 @@ import threading
 import time
 from typing import Any, Callable
 
-from harness import HUB, PYTHON, Service, request
+from harness import HUB, PYTHON, Service, limit, request
 
 ROOT = str(HUB)
 RUNNER = [PYTHON, '-P', '-c', f'import sys; sys.path.insert(0, {ROOT!r}); from acts_runner.__main__ import main; main()']
@@ -28,7 +28,7 @@ ENGINE = pathlib.Path(__file__).with_name('stand_in_engine.py').read_text()  # s
 
 def until(holds: Callable[[], Any], seconds: float = 180) -> Any:
     """Waits until something holds, and gives it."""
-    late = time.monotonic() + seconds
+    late = limit(seconds)
     while not (found := holds()):
         assert time.monotonic() < late, f'what was waited for did not come within {seconds} seconds'
         time.sleep(0.05)

@@ -302,7 +302,7 @@ def signed(body: bytes, secret: bytes, delivery: str) -> dict[str, str]:
 
 @closed_alone
 def test_a_replayed_delivery_makes_no_second_run(up: Up) -> None:
-    """A delivery that was overheard, with its right signature, comes again: the same run, and no other; with another id or body it is refused."""
+    """A delivery that was overheard, with its right signature, comes again, under another id too: no other run. With another secret or body it is refused."""
     secret = (up.folder / 'webhook.secret').read_text().strip().encode()
     mirror = up.folder / 'mirrors/octo/hello.git'
     sha = subprocess.check_output(['git', '-C', str(mirror), 'rev-parse', 'main'], text=True).strip()
@@ -323,6 +323,7 @@ def test_a_replayed_delivery_makes_no_second_run(up: Up) -> None:
     assert post(headers) in (200, 201, 202)
     until(lambda: runs() == before + 1, what='its run')
     assert post(headers) in (200, 201, 202)
+    assert post(signed(body, secret, 'under-another-id')) in (200, 201, 202)
     assert post(signed(body, b'wrong', 'other')) in (401, 403)
     assert post(headers, body + b' ') in (401, 403)
     time.sleep(1)

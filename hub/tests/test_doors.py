@@ -17,7 +17,7 @@ from collections.abc import Callable, Iterator
 from pathlib import Path
 
 import pytest
-from harness import HubProcess, Service, free_ports
+from harness import HubProcess, Service, free_ports, limit
 
 from acts_hub.config import ConfigError, config_of
 from acts_hub.doors import namespace
@@ -138,7 +138,7 @@ def whole(stream: socket.socket) -> bytes:
 
 
 def wait_for(what: str, is_so: Callable[[], bool], seconds: float = 180) -> None:
-    end = time.monotonic() + seconds
+    end = limit(seconds)
     while not is_so():
         assert time.monotonic() < end, f'waited {seconds} s for {what}'
         time.sleep(0.02)

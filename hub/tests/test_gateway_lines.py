@@ -3,6 +3,7 @@ from __future__ import annotations
 
 import contextlib
 import json
+import re
 import resource
 import socket
 import time
@@ -166,6 +167,25 @@ def test_a_narrowed_claim_is_the_same_after_a_restart_of_the_hub(wire: Open, ser
     two.life = one.life
     assert two.claim('r1') == ['nothing'], 'the first answer to this number'
     assert two.claim('r1')[2] == str(own)
+
+
+def test_pages_show_the_labels_that_a_runner_was_given(wire: Open, service: Service, hub: HubProcess) -> None:
+    """Not the random one of its life, and also those that its claim goes without while a foreign leg waits."""
+    def shown(name: str) -> list[str]:
+        page = hub.get(f'/runners?q={name}', token).text
+        return re.findall('<span class="tag"><bdi[^>]*>([^<]*)</bdi></span>', page)
+    one, two, token = wire(labels=('linux', 'big')), wire(labels=('linux', 'big'), repositories=('octo/hello',)), hub.token()
+    name, limited = f'r1{one.tag}', f'r2{one.tag}'
+    assert one.claim('r1', 'linux,big') == ['nothing']
+    assert until(lambda: shown(name)) == ['linux', 'big']
+    service.admit(body_of(repository='octo/secret'))
+    assert two.claim('r2', 'linux,big') == ['nothing']
+    told = request(service.view, 'GET', '/runners').json()['runners']
+    assert next(row['labels'] for row in told if row['runner'] == limited) == [two.life], 'what the service has of it'
+    assert until(lambda: shown(limited)) == ['linux', 'big']
+    rows = hub.get('/api/v3/orgs/octo/actions/runners?per_page=100', token).json()['runners']
+    assert {row['name']: [label['name'] for label in row['labels']] for row in rows if row['name'] in (name, limited)} == {
+        name: ['linux', 'big'], limited: ['linux', 'big']}
 
 
 def test_what_is_no_line(wire: Open) -> None:

@@ -10,7 +10,7 @@ from collections.abc import Iterator
 from urllib.parse import urlencode
 
 import pytest
-from harness import HubProcess, Service, until
+from harness import HubProcess, Service, request, until
 from pages_stage import Stage
 
 from acts_hub.config import Retention
@@ -65,17 +65,31 @@ def test_a_run_says_who_cancelled_it(stage: Stage) -> None:
 
 
 def test_what_the_service_can_not_do_has_no_button_and_is_refused_in_words(stage: Stage) -> None:
-    run, token = stage.admit('Stop me', jobs=NOBODY), stage.hub.token('anna', 'write')
-    stage.service.post(f'/runs/{run}/cancel')
-    stage.seen(run, 'completed')
-    page = stage.hub.get(stage.page(run), token).text
-    assert 'Re-run all jobs' in page and 'Cancel run' not in page
-    for action, words in (('rerun-failed', 'Re-run failed jobs'), ('force-cancel', 'Force cancel')):
-        answer = stage.hub.post(f'{stage.page(run)}/{action}', '', token, FORM)
-        if words not in page:
-            assert answer.status in (409, 422), action
-    assert stage.hub.post(f'{stage.page(run)}/approve', '', token, FORM).status == 422
-    assert stage.service.run(run)['attempt'] == 1
+    """Re-run failed jobs for a run that failed, force-cancel for one that is asked to stop: where the service takes the commands."""
+    failed, token = stage.admit('Fail me', jobs={'build': {'runs-on': 'fails', 'steps': [{'run': 'x'}]}}), stage.hub.token('anna', 'write')
+    stage.claim('fails').done('failure')
+    stopping = stage.admit('Stop me', jobs={'build': {'runs-on': 'stops', 'steps': [{'run': 'x'}]}})
+    leg = stage.claim('stops')
+    stage.service.post(f'/runs/{stopping}/cancel')
+    stage.seen(failed, 'completed')
+    until(lambda: 'Cancel run' not in stage.hub.get(stage.page(stopping), token).text, what='the stop')
+    for run, action, words, other, path in (
+            (failed, 'rerun-failed', 'Re-run failed jobs', 'Re-run all jobs', f'/runs/{failed}/attempts/2/failed-jobs'),
+            (stopping, 'force-cancel', 'Force cancel', 'Stop me', f'/runs/{stopping}/force-cancel')):
+        page = stage.hub.get(stage.page(run), token).text
+        is_known = request(stage.service.hook, 'GET', path).status == 405
+        assert other in page
+        assert (words in page) == is_known, action
+        if not is_known:
+            assert stage.hub.post(f'{stage.page(run)}/{action}', '', token, FORM).status in (409, 422), action
+    assert stage.hub.post(f'{stage.page(failed)}/approve', '', token, FORM).status == 422
+    assert stage.service.run(failed)['attempt'] == 1
+    leg.done('cancelled')
+
+
+def test_the_runners_page_has_times_in_words(stage: Stage) -> None:
+    text = shown(stage, '/runners', stage.hub.token('reader', 'read'))
+    assert 'not heard for over 2 minutes)' in text and ' 0s' not in text
 
 
 @pytest.mark.parametrize('action', ['cancel', 'rerun', 'rerun-failed', 'force-cancel', 'approve'])

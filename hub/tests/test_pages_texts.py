@@ -51,6 +51,11 @@ def test_how_long_ago(seconds: int, text: str) -> None:
     assert moments.ago(1_000_000, 1_000_000 + seconds * 1000) == text
 
 
+@pytest.mark.parametrize('seconds, text', [(120, '2 minutes'), (60, '1 minute'), (7_200, '2 hours'), (90, '1 minute'), (0, '0 seconds')])
+def test_a_time_in_words(seconds: int, text: str) -> None:
+    assert moments.span(seconds) == text
+
+
 def test_an_exact_time() -> None:
     assert moments.exact(1_795_895_169_615) == '2026-11-28 19:46:09 UTC'
     assert moments.machine(1_795_895_169_615) == '2026-11-28T19:46:09Z'

@@ -144,6 +144,28 @@ def test_the_watchdog_reports_a_silent_runner(host: Host) -> None:
     assert host.machine.do('cat', '/var/lib/acts-watchdog/fenced').splitlines()[0] == 'quiet silent'
 
 
+def test_a_runner_finishes_its_leg_when_its_unit_is_stopped(host: Host) -> None:
+    """By the hub, with its token as a credential, and steps of the unit's user."""
+    place = '/var/lib/acts-runner'
+    host.machine.do('useradd', '--system', '--user-group', '--home-dir', place, 'acts-runner')
+    status, token = host.ask('runuser', '-u', 'acts-hub', '--', *ORDER.split(), 'build', 'runner', '--prefix', 'build', '--labels', 'unit')
+    assert status == 0, token
+    host.machine.write('/etc/acts/runner-build.conf', 'OPTIONS=--hub http://127.0.0.1:8443 --pause 0.2 --beat 1\nLABELS=unit\n')
+    host.machine.write('/etc/acts/runner-build.token', f'{token}\n', 0o600)
+    host.start('acts-runner@build')
+    step = f'id -un > {place}/who; until test -e {place}/go; do sleep 0.1; done; cat /etc/acts/runner-build.token || echo closed >> {place}/who'
+    run = host.admit('units-4', **{'runs-on': 'unit', 'steps': [{'run': step}]})
+    until(lambda: '(running)' in host.door(8080, f'/runs/{run}')[1], what='the leg')
+    until(lambda: host.ask('test', '-s', f'{place}/who')[0] == 0, what='the step')
+    host.machine.do('systemctl', 'stop', '--no-block', 'acts-runner@build')
+    until(lambda: host.machine.show('acts-runner@build', 'ActiveState') == 'deactivating', what='the stop')
+    host.machine.write(f'{place}/go', '')
+    until(lambda: host.machine.show('acts-runner@build', 'ActiveState') == 'inactive', what='the end of the runner')
+    assert host.door(8080, f'/runs/{run}')[1].endswith(' completed success build:success(success)')
+    assert host.machine.show('acts-runner@build', 'Result') == 'success'
+    assert host.ask('cat', f'{place}/who')[1].split() == ['acts-runner', 'closed']
+
+
 @pytest.mark.parametrize(('unit', 'most'), [('acts', 1.0), ('acts-door@8080', 1.5), ('acts-hub', 2.5)])
 def test_the_units_take_away_what_is_not_needed(host: Host, unit: str, most: float) -> None:
     """By systemd's own mark, which is 9 and more for a unit without limits."""

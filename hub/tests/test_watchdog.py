@@ -1,6 +1,7 @@
 """The watchdog between runners and the service: whom it reports lost, when, and what it never ends."""
 from __future__ import annotations
 
+import contextlib
 import json
 import os
 import pathlib
@@ -13,7 +14,7 @@ from collections.abc import Callable, Iterator
 from typing import Any
 
 import pytest
-from harness import HUB, PYTHON, Process, RunnerLines, Service, body_of, request, until
+from harness import HUB, PYTHON, Process, RunnerLines, Service, body_of, limit, request, until
 
 AFTER = 3  # seconds after which a runner is silent
 FENCE = '''#!/bin/sh
@@ -40,7 +41,7 @@ class Relay(threading.Thread):
             threading.Thread(target=self.serve, args=[self.server.accept()[0]], daemon=True).start()
 
     def serve(self, client: socket.socket) -> None:
-        with client:
+        with client, contextlib.suppress(ConnectionError):  # of one that was killed
             while asked := client.recv(4096):
                 if b'/lost ' in asked:
                     self.kept += 1
@@ -111,7 +112,7 @@ class Runner:
 
     def beats_until(self, test: Callable[[str], bool]) -> str:
         """Beats until something is so; the last answer."""
-        late = time.monotonic() + 60
+        late = limit(60)
         while time.monotonic() < late:
             answer = self.beat()
             if test(answer):

@@ -26,7 +26,7 @@ from collections import Counter
 from collections.abc import Iterator
 
 sys.path.insert(0, os.path.dirname(os.path.abspath(__file__)))
-from harness import HubProcess, Service, body_of, request
+from harness import HubProcess, Service, body_of, limit, request
 from runner_trials import Host, kill_all, lines_of, until
 
 LINES = 200
@@ -147,7 +147,7 @@ class Trials:
     def trial(self, number: int, legs: int) -> list[str]:
         """What went wrong in one trial."""
         runs = self.admit(number, legs)
-        late = time.monotonic() + 600
+        late = limit(600)
         while not self.is_done(runs):
             assert time.monotonic() < late, 'the runs do not come to their end'
             time.sleep(random.uniform(0.3, 2))
@@ -168,7 +168,7 @@ class Trials:
         for name in ('one', 'two'):
             if noted[f'ended {name} {run}']:
                 wanted = [str(number) for number in range(1, LINES + 1)]
-                deadline = time.monotonic() + 90
+                deadline = limit(90)
                 while (found := self.lines(run, name)) != wanted and time.monotonic() < deadline:
                     time.sleep(0.2)
                 if found != wanted:

@@ -112,6 +112,8 @@ class Passing:
         is_limited = '*' not in identity.repositories
         async with self.in_turn(is_limited):
             answer = await lines.ask(str(await self.sent(identity, claim, is_limited)))
+            if not answer.text.startswith('refused '):
+                self.environments.mirror.runner_store.asked(claim.runner, claim.own_labels)
             if not answer.text.startswith('lease '):
                 return answer
             return await self.given(identity, claim, answer)

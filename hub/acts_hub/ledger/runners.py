@@ -3,10 +3,16 @@ from __future__ import annotations
 
 import json
 import re
+from collections.abc import Iterable
 
 from .database import Database, Statement
 
-OWN = re.compile(r'life-[0-9a-f]{12}|approved-[0-9]+')
+OWN = re.compile(r'life-[0-9a-f]{12}|approved-[0-9]+|no-leg-of-this-repository')
+
+
+def given(labels: Iterable[str]) -> tuple[str, ...]:
+    """The labels that a runner was given: without those that stand for a life of it, an approval, or no leg at all."""
+    return tuple(label for label in labels if not OWN.fullmatch(label))
 
 
 class RunnerStore:
@@ -16,6 +22,7 @@ class RunnerStore:
         self._database = database
         self.labels: dict[str, tuple[str, ...]] = {}
         self.seen_at: dict[str, int] = {}
+        self._asked: dict[str, tuple[str, ...]] = {}
 
     def load(self) -> None:
         """Reads all."""
@@ -24,10 +31,20 @@ class RunnerStore:
             self.seen_at.setdefault(name, seen)
 
     def claimed(self, name: str, labels: list[str], at: int | None) -> list[Statement]:
-        """Notes a claim: without the labels that stand for a life of the runner, or an approval."""
-        kept = tuple(label for label in labels if not OWN.fullmatch(label))
+        """Notes a claim that the service had."""
+        kept = given(labels)
         seen = self.seen_at[name] = at if at is not None else self.seen_at.get(name, 0)
         if self.labels.get(name) == kept:
             return []
         self.labels[name] = kept
         return [('insert or replace into runners (name, labels, seen_at) values (?, ?, ?)', (name, json.dumps(kept), seen))]
+
+    def asked(self, name: str, labels: Iterable[str]) -> None:
+        """Notes with which labels a runner asked the gateway, which may send fewer to the service."""
+        self._asked[name] = given(labels)
+
+    def shown(self, name: str, labels: Iterable[str] | None) -> tuple[str, ...] | None:
+        """The labels of a runner, for people: those it asked with, else those of its last claim at the service."""
+        if name in self._asked:
+            return self._asked[name]
+        return self.labels.get(name) if labels is None else given(labels)

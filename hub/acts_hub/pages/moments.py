@@ -22,11 +22,14 @@ def lasted(milliseconds: int | None) -> str:
 def ago(moment: int, now: int) -> str:
     """How long ago a time is: 3 minutes ago; 'now' below a second, and for a clock that is ahead."""
     seconds = (now - moment) // 1000
-    for name, length in _UNITS:
-        if seconds >= length:
-            count = seconds // length
-            return f'{count} {name}{"" if count == 1 else "s"} ago'
-    return 'now'
+    return f'{span(seconds)} ago' if seconds >= 1 else 'now'
+
+
+def span(seconds: int) -> str:
+    """A time in its largest unit that fits: 2 minutes."""
+    name, length = next((unit for unit in _UNITS if seconds >= unit[1]), _UNITS[-1])
+    count = seconds // length
+    return f'{count} {name}{"" if count == 1 else "s"}'
 
 
 def seconds_ago(seconds: int | None) -> str:

@@ -68,7 +68,7 @@ async def runners(site: Site, request: web.Request) -> web.StreamResponse:
         sections.append((title, [_row(site, request, one, wholes) for one in found[:most]], max(0, len(found) - most)))
     counts = {'busy': len(kinds['Active']), 'idle': len(kinds['Idle']), 'away': len(kinds['Offline']), 'all': len(every)}
     return site.page(request, 'runners.html', title='Runners', active='runners', q=q, counts=counts, sections=sections,
-                     away_words=moments.lasted(AWAY * 1000), changes='/-/changes', every=10)
+                     away_words=moments.span(AWAY), changes='/-/changes', every=10)
 
 
 def routes(site: Site) -> list[web.RouteDef]:

@@ -148,7 +148,7 @@ class RunRequests:
         """Says who forgets runs."""
         repository, _ = self.api.writable(request)
         self.api.run(request, repository)
-        raise Fault(422, 'A run is not deleted: the service forgets old runs by itself (--keep-runs).')
+        raise Fault(422, 'A run is not deleted here: how long runs are kept is for the service to say.')
 
     def refused(self, reply: Reply, completed: str) -> Fault:
         """The error of a command that the service refuses."""

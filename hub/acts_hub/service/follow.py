@@ -20,6 +20,7 @@ if TYPE_CHECKING:
     from .mirror import Mirror
 
 LIVE_SECONDS = 5.0
+BEHIND = 0.003  # seconds: what a line tells of is told to runners and clients that wait for its answer first
 FULL_PAGE = 1000
 VERIFIED = 1000
 LOOKED_AT = 2000
@@ -97,6 +98,7 @@ class Follower:
             lines, cursor = await view.changes(self._cursor, 25)
             heard = time.monotonic()
             self._fault(None)
+            await asyncio.sleep(BEHIND)
             await self.changes.take(lines, now() if is_live else None, cursor)
             self._cursor = cursor
 

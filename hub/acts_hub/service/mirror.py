@@ -124,9 +124,8 @@ class Mirror:
         return await self.hooks.body(run) if found is None else found
 
     async def runners(self) -> list[Runner]:
-        """All runners that have claimed, with the labels of their last claim."""
-        labels = self.runner_store.labels
-        return [one if one.labels is not None else dataclasses.replace(one, labels=labels.get(one.name)) for one in await self.view.runners()]
+        """All runners that have claimed, with the labels that they were given."""
+        return [dataclasses.replace(one, labels=self.runner_store.shown(one.name, one.labels)) for one in await self.view.runners()]
 
     # what is told to it
 
