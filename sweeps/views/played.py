@@ -45,6 +45,9 @@ class Viewed(served.Forever):
         line.close()
         return answer.status, dict(answer.getheaders()), body
 
+    def json(self, target):
+        return json.loads(self.get(target)[2])
+
 
 class Play:
     """A script that is played over the two old ports and by the model."""
