@@ -1,7 +1,7 @@
 //! One turn of a session: whether it is the last, and the bytes that answer its request. Sessions over streams and sessions in memory take
 //! their turns here.
 
-ghost use Rattle.std.specs.Prelude.{◌≡◌, ◌<◌, ◌+◌, ◌==◌, ◌||◌, ℕ, List, Ok, IfSome};
+ghost use Rattle.std.specs.Prelude.{◌≡◌, ◌<◌, ◌+◌, ◌==◌, ◌||◌, ℕ, List, Ok, IfSome, IsOk, IsSome};
 ghost use Rattle.wf_value.specs.Gives.{Gives};
 ghost use Rattle.act_sessions.specs.Rules.{Answered, Refused};
 ghost use Rattle.act_sessions.specs.Taking.{IsText, Takes};
@@ -25,7 +25,8 @@ fn is_last(ends: bool, count: u64, most: u64) -> bool
 
 /// The text of these bytes, or `None` if there was no memory for them.
 fn text_of(bytes: Result<Vec<u8>, Refusal>, last: bool) -> Option<TurnText>
-    ensures { (words : List ℕ) → Gives (λ v. v.items) bytes (Ok words) → IfSome result (λ text. (text.last ≡ last) × (text.bytes.items ≡ words)) }
+    ensures text { (words : List ℕ) → Gives (λ v. v.items) bytes (Ok words) → IfSome result (λ text. (text.last ≡ last) × (text.bytes.items ≡ words)) }
+    ensures some { IsOk bytes → IsSome result }
 {
     match bytes {
         Ok(bytes) => Some(TurnText { bytes, last }),

@@ -175,8 +175,11 @@ kinds_sound kind rest found are h =
     (small_text_reads is_runner_byte) (λ x t. t) (λ _. refl) kind rest found _ are h6 (λ h7.
     kind_or 7 number number_at (λ (n : ℕ). requested.Look n) number_reads (λ x t. t) (λ _. refl) kind rest found _ are h7 (λ h8.
     kind_or 8 number number_at (λ (n : ℕ). requested.Fetch n) number_reads (λ x t. t) (λ _. refl) kind rest found _ are h8 (λ h9.
-    kind_or 9 rerun rerun_at (λ (a : Attempt). requested.Rerun a) rerun_reads (λ x t. t) (λ _. refl) kind rest found _ are h9
-    (λ none. absurd (none-some found none))))))))))
+    kind_or 9 rerun rerun_at (λ (a : Attempt). requested.Rerun a) rerun_reads (λ x t. t) (λ _. refl) kind rest found _ are h9 (λ h12.
+    kind_or 12 number number_at (λ (n : ℕ). requested.Forget n) number_reads (λ x t. t) (λ _. refl) kind rest found _ are h12 (λ h13.
+    kind_or 13 (small_text is_runner_byte) (small_text_at is_runner_byte) (λ (r : List ℕ). requested.Discharge r)
+    (small_text_reads is_runner_byte) (λ x t. t) (λ _. refl) kind rest found _ are h13
+    (λ none. absurd (none-some found none))))))))))))
 
 command_finds : (bytes : List ℕ) (found : Command × List ℕ) → AreBytes bytes → command_at bytes ≡ Some found → Prefixes command bytes found
 unfolding command_at
@@ -196,6 +199,10 @@ command_found (requested.Lost runner) rest fits =
 command_found (requested.Fetch run) rest fits = kind_complete number number_at (λ (n : ℕ). requested.Fetch n) number_reads run rest fits
 command_found (requested.Rerun requests) rest fits = kind_complete rerun rerun_at (λ (a : Attempt). requested.Rerun a) rerun_reads requests rest fits
 command_found (requested.Look run) rest fits = kind_complete number number_at (λ (n : ℕ). requested.Look n) number_reads run rest fits
+command_found (requested.Forget run) rest fits = kind_complete number number_at (λ (n : ℕ). requested.Forget n) number_reads run rest fits
+command_found (requested.Discharge runner) rest fits =
+    kind_complete (small_text is_runner_byte) (small_text_at is_runner_byte) (λ (r : List ℕ). requested.Discharge r)
+    (small_text_reads is_runner_byte) runner rest fits
 
 pub command_reads : Reads command command_at
 command_reads = record { sound = command_finds; complete = command_found }

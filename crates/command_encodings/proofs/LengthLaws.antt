@@ -82,6 +82,8 @@ length_command (requested.Look run) = after_one _ (length_word run)
 length_command (requested.Fetch run) = after_one _ (length_word run)
 length_command (requested.Rerun requests) =
     after_one _ (length_two (word_bytes requests.run) (word_bytes requests.attempt) 4 4 (length_word requests.run) (length_word requests.attempt))
+length_command (requested.Forget run) = after_one _ (length_word run)
+length_command (requested.Discharge runner) = after_one _ (length_text runner)
 
 pub length_batch : (commands : List Command) → length_of batch commands ≡ batch_length commands
 length_batch commands = length_counted command_bytes command_length commands length_command

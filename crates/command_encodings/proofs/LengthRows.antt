@@ -28,6 +28,12 @@ look_up_has_5 run = refl
 rerun_has_9 : (run attempt : ℕ) → command_length (requested.Rerun (record { run = run; attempt = attempt })) ≡ 9
 rerun_has_9 run attempt = refl
 
+forget_has_5 : (run : ℕ) → command_length (requested.Forget run) ≡ 5
+forget_has_5 run = refl
+
+discharge_has_7 : command_length (requested.Discharge (codes "r1")) ≡ 7
+discharge_has_7 = refl
+
 batch_of_a_look_up_has_9 : (run : ℕ) → batch_length (requested.Look run ∷ []) ≡ 9
 batch_of_a_look_up_has_9 run = refl
 

@@ -83,8 +83,10 @@ IsEncoded (requested.Lost runner) = (small_text is_runner_byte).Takes runner
 IsEncoded (requested.Look run) = number.Takes run
 IsEncoded (requested.Fetch run) = number.Takes run
 IsEncoded (requested.Rerun requests) = rerun.Takes requests
+IsEncoded (requested.Forget run) = number.Takes run
+IsEncoded (requested.Discharge runner) = (small_text is_runner_byte).Takes runner
 
--- the byte for the command's kind
+-- the byte for the command's kind; 10 and 11 are of no command
 abbrev pub kind_of : Command → ℕ
 kind_of (requested.Admit event) = 1
 kind_of (requested.Claim requests) = 2
@@ -95,6 +97,8 @@ kind_of (requested.Lost runner) = 6
 kind_of (requested.Look run) = 7
 kind_of (requested.Fetch run) = 8
 kind_of (requested.Rerun requests) = 9
+kind_of (requested.Forget run) = 12
+kind_of (requested.Discharge runner) = 13
 
 -- the bytes after it
 abbrev pub fields_of : Command → List ℕ
@@ -107,6 +111,8 @@ fields_of (requested.Lost runner) = (small_text is_runner_byte).encoding runner
 fields_of (requested.Look run) = number.encoding run
 fields_of (requested.Fetch run) = number.encoding run
 fields_of (requested.Rerun requests) = rerun.encoding requests
+fields_of (requested.Forget run) = number.encoding run
+fields_of (requested.Discharge runner) = (small_text is_runner_byte).encoding runner
 
 abbrev pub command_bytes : Command → List ℕ
 command_bytes c = kind_of c ∷ fields_of c

@@ -27,6 +27,8 @@ fields_length (requested.Lost runner) = text_length runner
 fields_length (requested.Look run) = 4
 fields_length (requested.Fetch run) = 4
 fields_length (requested.Rerun requests) = 4 + 4
+fields_length (requested.Forget run) = 4
+fields_length (requested.Discharge runner) = text_length runner
 
 -- one byte for the command's kind
 abbrev pub command_length : Command → ℕ

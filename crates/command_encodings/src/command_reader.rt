@@ -155,6 +155,14 @@ fn command_of(alloc: Global, kind: u8, bytes: &[u8]) -> Result<(Command, &[u8]),
             Ok((Command::Fetch(Number::new(run)), rest))
         }
         9 => rerun_at(bytes),
+        12 => {
+            let (run, rest) = number_at(bytes)?;
+            Ok((Command::Forget(Number::new(run)), rest))
+        }
+        13 => {
+            let (runner, rest) = small_text_at::<RunnerForm>(alloc, bytes)?;
+            Ok((Command::Discharge(runner), rest))
+        }
         _ => Err(DecodeError::NoEncoding),
     }
 }

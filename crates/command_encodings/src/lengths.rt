@@ -86,9 +86,9 @@ fn fields_length(requested: &Command) -> u64
         Command::Claim(requests) => claim_length(requests),
         Command::Done(report) => done_length(report),
         Command::Beat(requests) => beat_length(requests),
-        Command::Lost(runner) => small_text_length(runner),
+        Command::Lost(runner) | Command::Discharge(runner) => small_text_length(runner),
         Command::Rerun(_) => WORD + WORD,
-        Command::Cancel(_) | Command::Look(_) | Command::Fetch(_) => WORD,
+        Command::Cancel(_) | Command::Look(_) | Command::Fetch(_) | Command::Forget(_) => WORD,
     }
 }
 

@@ -22,6 +22,8 @@ pub use lengths::{
     WORD, admit_length, claim_length, command_length, done_length, small_text_length,
 };
 pub use prefix::{byte_at, text_at, word_at};
-pub use push::{push_admit, push_claim, push_done, push_number, push_small_text, push_word};
+pub use push::{
+    push_admit, push_claim, push_done, push_number, push_small_text, push_text, push_word,
+};
 pub use read::{read_batch, read_command};
 pub use write::{all_or_none, write_batch, write_command};

@@ -23,7 +23,7 @@ pub fn push_word(out: &mut Vec<u8>, value: u32) -> Result<(), AllocError>
 
 /// Appends the length of a text and its bytes.
 #[tactic(auto, using(crate::proofs::Keeping::unchanged, crate::proofs::Keeping::longer), unfolding(definitions::specs::Format::text_bytes))]
-fn push_text(out: &mut Vec<u8>, text: &[u8]) -> Result<(), AllocError>
+pub fn push_text(out: &mut Vec<u8>, text: &[u8]) -> Result<(), AllocError>
     requires { length text.now < 2 ^ 32 }
     ensures bytes { OnOk result (out.new.items ≡ out.old.items ++ text_bytes text.now) }
     ensures kept { OnErr result (Keeps out.old.items out.new.items) }
@@ -172,6 +172,8 @@ fn push_kind(out: &mut Vec<u8>, requested: &Command) -> Result<(), AllocError>
         Command::Look(_) => out.extend_from_slice(&[7]),
         Command::Fetch(_) => out.extend_from_slice(&[8]),
         Command::Rerun(_) => out.extend_from_slice(&[9]),
+        Command::Forget(_) => out.extend_from_slice(&[12]),
+        Command::Discharge(_) => out.extend_from_slice(&[13]),
     }
 }
 
@@ -187,9 +189,10 @@ fn push_fields(out: &mut Vec<u8>, requested: &Command) -> Result<(), AllocError>
         Command::Claim(requests) => push_claim(out, requests),
         Command::Done(report) => push_done(out, report),
         Command::Beat(requests) => push_beat(out, requests),
-        Command::Lost(runner) => push_small_text(out, runner),
+        Command::Lost(runner) | Command::Discharge(runner) => push_small_text(out, runner),
         Command::Rerun(requests) => push_rerun(out, *requests),
-        Command::Cancel(run) | Command::Look(run) | Command::Fetch(run) => push_number(out, *run),
+        Command::Cancel(run) | Command::Look(run) | Command::Fetch(run) | Command::Forget(run) =>
+            push_number(out, *run),
     }
 }
 

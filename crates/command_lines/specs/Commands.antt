@@ -84,3 +84,11 @@ abbrev pub rerun_of : List ℕ → Option Command
 rerun_of fields =
     option_and_then (λ f. option_and_then (λ run. option_map (λ attempt. command.Rerun (record { run = run; attempt = attempt }))
     (number_of f.1)) (number_of f.0)) (at_space fields)
+
+-- `forget RUN`
+abbrev pub forget_of : List ℕ → Option Command
+forget_of field = option_map (λ run. command.Forget run) (number_of field)
+
+-- `discharge RUNNER`
+abbrev pub discharge_of : List ℕ → Option Command
+discharge_of field = option_map (λ runner. command.Discharge runner) (runner_name_of field)

@@ -3,7 +3,7 @@ ghost use Rattle.std.specs.Option.{option_map_or};
 ghost use Rattle.wf_value.specs.Gives.{Gives};
 ghost use Rattle.definitions.specs.SmallText.{label_list_of, short_text_of};
 ghost use Rattle.command_lines.specs.Commands.{not_a_line, prepared, admit_of, event_of, claim_of, outcome_of, done_of, beat_of};
-ghost use Rattle.command_lines.specs.Commands.{cancel_of, lost_of, look_of, fetch_of, rerun_of};
+ghost use Rattle.command_lines.specs.Commands.{cancel_of, lost_of, look_of, fetch_of, rerun_of, forget_of, discharge_of};
 
 use crate::fields::{at_space, three_fields};
 use run_plan::{
@@ -39,8 +39,9 @@ fn labels(alloc: Global, field: &[u8]) -> Result<Labels, Refusal>
 /// fault, 10 to 26; the body of the latest event is not read again.
 /// Promise (Bodies, plans and replies): The fields of a line are read as the command of the definition, or refused 75, or with the first fault
 ///   of a body
-/// By: `command_lines::{admit_of, claim_of, done_of, beat_of, cancel_of, lost_of, look_of, fetch_of, rerun_of, spelled, at_space, three_fields}`
-/// Refusal (The layers below): `command_lines`: `admit_of`, `claim_of`, `done_of`, `beat_of`, `lost_of`
+/// By: `command_lines::{admit_of, claim_of, done_of, beat_of, cancel_of, lost_of, look_of, fetch_of, rerun_of, forget_of, discharge_of, spelled,
+///   at_space, three_fields}`
+/// Refusal (The layers below): `command_lines`: `admit_of`, `claim_of`, `done_of`, `beat_of`, `lost_of`, `discharge_of`
 /// When: 75, then of `admit_of` 10 to 26: exactly, with memory. 50
 /// Afterwards: nothing is made
 /// By: one clause each (`Gives`)
@@ -138,7 +139,7 @@ pub fn beat_of(alloc: Global, fields: &[u8]) -> Result<Command, Refusal>
 }
 
 /// Parses `RUN`.
-/// Refusal (The layers below): `command_lines`: `cancel_of`, `look_of`, `fetch_of`, `rerun_of`, `spelled`
+/// Refusal (The layers below): `command_lines`: `cancel_of`, `look_of`, `fetch_of`, `rerun_of`, `forget_of`, `spelled`
 /// When: 75: exactly
 /// Afterwards: nothing is made
 /// By: one clause each
@@ -177,4 +178,18 @@ pub fn rerun_of(fields: &[u8]) -> Result<Command, Refusal>
     let run = spelled(Number::of(run))?;
     let attempt = spelled(Number::of(attempt))?;
     Ok(Command::Rerun(Attempt { run, attempt }))
+}
+
+/// Parses `RUN`.
+pub fn forget_of(field: &[u8]) -> Result<Command, Refusal>
+    ensures { result ≡ ok_or (forget_of field.now) not_a_line }
+{
+    Ok(Command::Forget(spelled(Number::of(field))?))
+}
+
+/// Parses `RUNNER`.
+pub fn discharge_of(alloc: Global, field: &[u8]) -> Result<Command, Refusal>
+    ensures { Gives (λ c. c) result (ok_or (discharge_of field.now) not_a_line) }
+{
+    Ok(Command::Discharge(small_text(alloc, field)?))
 }

@@ -73,9 +73,10 @@ pub(crate) fn command_fits(requested: &Command)
         Command::Claim(requests) => claim_fits(requests),
         Command::Done(report) => done_fits(report),
         Command::Beat(requests) => beat_fits(requests),
-        Command::Lost(runner) => small_text_fits(runner),
+        Command::Lost(runner) | Command::Discharge(runner) => small_text_fits(runner),
         Command::Rerun(requests) => rerun_fits(*requests),
         Command::Cancel(run) | Command::Look(run) | Command::Fetch(run) => number_fits(*run),
+        Command::Forget(run) => number_fits(*run),
     }
 }
 

@@ -3,12 +3,15 @@ ghost use Rattle.run_plan.specs.declared.last_command.LastCommand.TheVariants as
 ghost use Rattle.table_model.specs.Parts.{stored_run};
 ghost use Rattle.table_model.specs.Sound.{IsSound};
 ghost use Rattle.stored_tables.specs.Stored.{stored_last, stored_lease, stored_runner, stored_table};
-ghost use Rattle.table_text.specs.Tables.{job, kept_lease, last_command, lease, leg, run, runner, table};
+ghost use Rattle.command_encodings.specs.Commands.{small_text};
+ghost use Rattle.definitions.specs.SmallText.{is_delivery_byte};
+ghost use Rattle.table_text.specs.Tables.{count, forgotten, job, kept_lease, last_command, lease, leg, run, runner, table};
 ghost use Rattle.table_text.specs.inner.Writing.{HasByte, JobHasBytes, KeptHasBytes, RunHasBytes};
 
 use crate::commands::{admit_fits, claim_fits, done_fits, number_fits, small_text_fits};
 use crate::lists::{Fits, all_fit};
-use run_plan::{Claim, ClaimReply, KeptLease, LastCommand, Number};
+use forgotten_runs::{ForgottenRuns, WorkflowCount};
+use run_plan::{Claim, ClaimReply, DeliveryId, KeptLease, LastCommand, Number};
 use run_table::{Runner, Table};
 use table_model::{Job, Leg, Run};
 
@@ -100,6 +103,38 @@ impl Fits for Runner {
     }
 }
 
+// ---- what is kept of forgotten runs
+
+impl Fits for WorkflowCount {
+    ghost can = { λ c. Unit {0} };
+
+    ghost takes = { count.Takes };
+
+    fn fits(&self) {
+        let _repo = self.repo();
+        let _path = self.path();
+        number_fits(self.runs());
+    }
+}
+
+impl Fits for DeliveryId {
+    ghost can = { λ d. Unit {0} };
+
+    ghost takes = { (small_text is_delivery_byte).Takes };
+
+    fn fits(&self) {
+        small_text_fits(self);
+    }
+}
+
+fn forgotten_fits(value: &ForgottenRuns)
+    ensures { forgotten.Takes value.now }
+{
+    let _through = value.through();
+    all_fit(value.counts());
+    all_fit(value.deliveries());
+}
+
 // ---- tables
 
 pub(crate) fn table_fits(value: &Table)
@@ -108,6 +143,7 @@ pub(crate) fn table_fits(value: &Table)
     ensures takes { table.Takes (stored_table value.now) }
 {
     let _ = value.last_lease();
+    forgotten_fits(value.forgotten());
     let runs = value.runs();
     let runners = value.runners();
     all_fit(runs);

@@ -67,6 +67,14 @@ lease : reply_text (reply.Lease (record { lease = 1; run = 1; job = codes "build
 unfolding digits
 lease = refl
 
+forgotten : reply_text (reply.Forgotten 2) ≡ codes "forgotten 2"
+unfolding digits
+forgotten = refl
+
+none_forgotten : reply_text (reply.Forgotten 0) ≡ codes "forgotten 0"
+unfolding digits
+none_forgotten = refl
+
 has_lease : reply_text (reply.Refused (Numbered HasLease)) ≡ codes "refused 42"
 unfolding digits
 has_lease = refl

@@ -53,6 +53,7 @@ reply_text reply.GoOn = codes "go on"
 reply_text (reply.Run view) = view
 reply_text (reply.Body body) = body_lines body
 reply_text (reply.Again a) = again_line a.run a.attempt
+reply_text (reply.Forgotten last) = codes "forgotten " ++ decimal last
 reply_text (reply.Refused r) = refusal_text r
 
 -- whether a copy takes memory: only texts do
@@ -66,6 +67,7 @@ carries_text reply.GoOn = false
 carries_text (reply.Run view) = true
 carries_text (reply.Body body) = true
 carries_text (reply.Again a) = false
+carries_text (reply.Forgotten last) = false
 carries_text (reply.Refused (Numbered code)) = false
 carries_text (reply.Refused (Cycle ids)) = true
 carries_text (reply.Refused (Turn last)) = false

@@ -56,6 +56,10 @@ pub enum Command {
     Fetch(Number),
     /// Starts this attempt of a completed run, or repeats that command.
     Rerun(Attempt),
+    /// Forgets the first runs of the table that have completed, up to this id.
+    Forget(Number),
+    /// Forgets a runner that holds no lease.
+    Discharge(RunnerName),
 }
 
 impl TryCopy for Command {
@@ -70,6 +74,8 @@ impl TryCopy for Command {
             Command::Look(run) => Ok(Command::Look(*run)),
             Command::Fetch(run) => Ok(Command::Fetch(*run)),
             Command::Rerun(attempt) => Ok(Command::Rerun(*attempt)),
+            Command::Forget(run) => Ok(Command::Forget(*run)),
+            Command::Discharge(runner) => Ok(Command::Discharge(runner.copy(alloc)?)),
         }
     }
 }
@@ -86,6 +92,8 @@ impl Same for Command {
             (Command::Look(one), Command::Look(other)) => *one == *other,
             (Command::Fetch(one), Command::Fetch(other)) => *one == *other,
             (Command::Rerun(one), Command::Rerun(other)) => one.same(other),
+            (Command::Forget(one), Command::Forget(other)) => *one == *other,
+            (Command::Discharge(one), Command::Discharge(other)) => one.same(other),
             _ => false,
         }
     }

@@ -221,9 +221,36 @@ pub fn prepare(
     })
 }
 
-/// As `prepare`. If the bytes are those of the latest event, they are neither read again nor copied.
+/// As `prepare`, of bytes that are copied only once they have no fault.
+fn prepare_copy(
+    alloc: Global,
+    event: EventName,
+    delivery: DeliveryId,
+    body: &[u8],
+) -> Result<Prepared, Refusal>
+    ensures gives { Gives (λ p. p) result
+        (unless_faulty (faults_of body.now) (record { delivery = delivery; event = event; body = body.now })) }
+    ensures too_long { max_body < length body.now → result ≡ Err (Numbered TooLong) }
+    ensures no_text { length body.now ≤ max_body → is_utf8 body.now ≡ false
+        → result ≡ Err (Numbered NotJson) }
+{
+    let (contexts, planned) = contexts_and_workflow(alloc, body)?;
+    let bytes = body.to_vec(alloc)?;
+    let workflow = Arc::new(alloc, planned)?;
+    let read = AdmittedBody { bytes, contexts };
+    let body = Arc::new(alloc, read)?;
+    let admission = Arc::new(alloc, Admission { delivery, event })?;
+    Ok(Prepared {
+        admission,
+        body,
+        workflow,
+    })
+}
+
+/// As `prepare`. If the bytes are those of the latest event, they are neither read again nor copied. Others are copied only once they have no
+/// fault.
 /// Promise (Bodies, plans and replies): What is prepared does not depend on the latest event; that its bytes are not read again is in no clause
-/// By: `run_plan::prepare_beside`
+/// By: `run_plan::prepare_beside`, `gives`
 pub fn prepare_beside(
     alloc: Global,
     latest: Option<&Prepared>,
@@ -231,11 +258,16 @@ pub fn prepare_beside(
     delivery: DeliveryId,
     body: &[u8],
 ) -> Result<Prepared, Refusal>
-    ensures { Gives (λ p. p) result
+    ensures gives { Gives (λ p. p) result
         (unless_faulty (faults_of body.now) (record { delivery = delivery; event = event; body = body.now })) }
+
+    // These two hold with or without memory:
+    ensures too_long { max_body < length body.now → result ≡ Err (Numbered TooLong) }
+    ensures no_text { length body.now ≤ max_body → is_utf8 body.now ≡ false
+        → result ≡ Err (Numbered NotJson) }
 {
     match latest {
         Some(latest) if latest.body() == body => latest.delivered_as(alloc, event, delivery),
-        _ => prepare(alloc, event, delivery, body.to_vec(alloc)?),
+        _ => prepare_copy(alloc, event, delivery, body),
     }
 }

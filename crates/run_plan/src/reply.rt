@@ -107,6 +107,8 @@ pub enum Reply {
     Body(SharedBody),
     /// The current attempt of the run.
     Again(Attempt),
+    /// The last id that is forgotten, and with it all before: 0 to 999,999,999.
+    Forgotten(u32),
     /// 40 to 45, 48 and 49. The table is unchanged.
     Refused(Refusal),
 }
@@ -130,6 +132,7 @@ impl TryCopy for Reply {
             Reply::Run(view) => Ok(Reply::Run(view.copy(alloc)?)),
             Reply::Body(body) => Ok(Reply::Body(body.copy(alloc)?)),
             Reply::Again(attempt) => Ok(Reply::Again(*attempt)),
+            Reply::Forgotten(last) => Ok(Reply::Forgotten(*last)),
             Reply::Refused(refusal) => Ok(Reply::Refused(refusal.copy(alloc)?)),
         }
     }
@@ -147,6 +150,7 @@ impl Same for Reply {
             (Reply::Run(one), Reply::Run(other)) => one.same(other),
             (Reply::Body(one), Reply::Body(other)) => one.same(other),
             (Reply::Again(one), Reply::Again(other)) => one.same(other),
+            (Reply::Forgotten(one), Reply::Forgotten(other)) => *one == *other,
             (Reply::Refused(one), Reply::Refused(other)) => one.same(other),
             _ => false,
         }
@@ -175,6 +179,10 @@ impl Reply {
             Reply::Again(again) => {
                 let (run, attempt) = (again.run.get(), again.attempt.get());
                 Ok(Chars::new(again_line(alloc, run, attempt)?))
+            }
+            Reply::Forgotten(last) => {
+                let last = *last;
+                Ok(Chars::new(format!(in alloc; "forgotten {last}")?))
             }
             Reply::Refused(refusal) => refusal.text(alloc),
         }

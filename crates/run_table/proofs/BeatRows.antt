@@ -5,6 +5,7 @@ use Rattle.run_plan.specs.declared.command.Beat.{Beat as Requested}
 use Rattle.run_plan.specs.declared.command.Claim.{Claim as Claimed}
 use Rattle.run_plan.specs.declared.command.Command.TheVariants as command
 use Rattle.run_plan.specs.declared.last_command.ClaimReply.TheVariants as given
+use Rattle.table_model.specs.Forgotten.{none_forgotten}
 use Rattle.table_model.specs.Step.{claiming_runner, stepped}
 use Rattle.table_model.specs.TableState.{TableState}
 use Rattle.table_model.specs.declared.phases.LegPhase.{LegPhase}
@@ -20,6 +21,7 @@ claim_of_one = record { runner = codes "r1"; number = 1; labels = codes "linux" 
 abbrev table_with : LegPhase → TableState
 table_with phase = record {
   last_lease = 1;
+  forgotten = none_forgotten;
   runs = record {
     id = 1;
     number = 1;

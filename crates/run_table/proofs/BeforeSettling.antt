@@ -1,6 +1,6 @@
 -- The runs of a table after a command and before settling: each run still fits, and each group has at most one holder
 -- of each kind.
-use Rattle.std.specs.Prelude.{◌≡◌, ℕ, ◌-◌, ◌<◌, List, [], ◌∷◌, ◌++◌, true, false, length, Option, Some, None, IfSome, refl}
+use Rattle.std.specs.Prelude.{◌≡◌, ℕ, ◌<◌, List, [], ◌∷◌, ◌++◌, true, false, length, Option, Some, None, IfSome, refl}
 use Rattle.std.proofs.Common.{ap, sym, ◌∙◌, subst}
 use Rattle.std.proofs.lemmas.Option.{slice_get_within}
 use Rattle.definitions.specs.SmallText.{Admitted}
@@ -9,14 +9,14 @@ use Rattle.run_plan.specs.declared.command.Done.{Done as Reported}
 use Rattle.table_model.specs.Settling.{arrived}
 use Rattle.table_model.specs.Fitting.{first_fit}
 use Rattle.table_model.specs.Groups.{HasOneBeside, HasOneEach, waits}
-use Rattle.table_model.specs.LegContext.{next_run}
+use Rattle.table_model.specs.Forgotten.{ForgottenRuns, next_run}
 use Rattle.table_model.specs.Runs.{run_at, with_leg, with_run, leg_has_ended, again, leased_leg, RunState}
 use Rattle.table_model.specs.declared.sites.LegSite.{LegSite}
 use Rattle.table_model.specs.Sound.{IsSound, RunsAreSound}
 use Rattle.table_model.specs.Step.{entered_again, report_answer, rerun_answer}
 use Rattle.table_model.specs.Stops.{with_ended, outcome_of_loss, stopped_run}
 use Rattle.table_model.specs.declared.phases.RunPhase.TheVariants as run
-use Rattle.table_model.specs.TableState.{RunnerState, TableState, runner_named}
+use Rattle.table_model.specs.TableState.{RunnerState, TableState, index_of, runner_named}
 use Rattle.table_model.specs.declared.phases.LegPhase.{LegPhase}
 use Rattle.run_table.proofs.AdmitKeeps.{all_fit}
 use Rattle.run_table.proofs.BeginsAgain.{BeginsAgain, begins_again}
@@ -46,11 +46,11 @@ so_settles runs new is may = subst MaySettle (sym is) may
 
 -- ---- a run is entered
 
-pub sound_with_it : (t : TableState) (event : Admitted) (runs : List RunState) → IsSound t → runs ≡ t.runs
-    → RunsAreSound (runs ++ next_run runs event ∷ [])
-sound_with_it t event runs s runs_are =
-    subst (λ (xs : List RunState). RunsAreSound (xs ++ next_run xs event ∷ [])) (sym runs_are)
-    (sound_runs (t.runs ++ next_run t.runs event ∷ []) (all_fit t.runs event (table_fits t s)))
+pub sound_with_it : (t : TableState) (event : Admitted) (forgotten : ForgottenRuns) (runs : List RunState) → IsSound t → runs ≡ t.runs
+    → RunsAreSound (runs ++ next_run forgotten runs event ∷ [])
+sound_with_it t event forgotten runs s runs_are =
+    subst (λ (xs : List RunState). RunsAreSound (xs ++ next_run forgotten xs event ∷ [])) (sym runs_are)
+    (sound_runs (t.runs ++ next_run forgotten t.runs event ∷ []) (all_fit forgotten t.runs event (table_fits t s)))
 
 -- ---- a run begins again
 
@@ -76,26 +76,26 @@ again_may_settle t r attempt s begins = record {
 
 -- the run with an id, at its index
 pub may_begin : (t : TableState) (requested : Attempt) (runs : List RunState) (index : ℕ) → rerun_answer t requested ≡ None → runs ≡ t.runs
-    → index ≡ requested.run - 1 → IfSome (run_at runs index) (λ x. x.attempt < 1000)
+    → index ≡ index_of t requested.run → IfSome (run_at runs index) (λ x. x.attempt < 1000)
 may_begin t requested runs index due runs_are place_is =
     let begins = begins_again t requested due in
     subst (λ (o : Option RunState). IfSome o (λ x. x.attempt < 1000))
-    (sym (ap (run_at runs) place_is ∙ ap (λ (rs : List RunState). run_at rs (requested.run - 1)) runs_are ∙ begins.there)) begins.below
+    (sym (ap (run_at runs) place_is ∙ ap (λ (rs : List RunState). run_at rs (index_of t requested.run)) runs_are ∙ begins.there)) begins.below
 
 -- it has ended, and all runs are sound
 pub may_begin_again : (t : TableState) (requested : Attempt) (runs : List RunState) (index : ℕ) → rerun_answer t requested ≡ None → runs ≡ t.runs
-    → index ≡ requested.run - 1 → IfSome (run_at runs index) (λ x. x.phase ≡ run.Ended)
+    → index ≡ index_of t requested.run → IfSome (run_at runs index) (λ x. x.phase ≡ run.Ended)
 may_begin_again t requested runs index due runs_are place_is =
     let begins = begins_again t requested due in
     subst (λ (o : Option RunState). IfSome o (λ x. x.phase ≡ run.Ended))
-    (sym (ap (run_at runs) place_is ∙ ap (λ (rs : List RunState). run_at rs (requested.run - 1)) runs_are ∙ begins.there)) begins.ended
+    (sym (ap (run_at runs) place_is ∙ ap (λ (rs : List RunState). run_at rs (index_of t requested.run)) runs_are ∙ begins.there)) begins.ended
 
 pub begins_within : (t : TableState) (requested : Attempt) (runs : List RunState) (index : ℕ) → rerun_answer t requested ≡ None → runs ≡ t.runs
-    → index ≡ requested.run - 1 → index < length runs
+    → index ≡ index_of t requested.run → index < length runs
 begins_within t requested runs index due runs_are place_is =
     let begins = begins_again t requested due in
     slice_get_within runs index begins.was
-    (ap (run_at runs) place_is ∙ ap (λ (rs : List RunState). run_at rs (requested.run - 1)) runs_are ∙ begins.there)
+    (ap (run_at runs) place_is ∙ ap (λ (rs : List RunState). run_at rs (index_of t requested.run)) runs_are ∙ begins.there)
 
 pub sound_as_they_are : (t : TableState) (runs : List RunState) → IsSound t → runs ≡ t.runs → RunsAreSound runs
 sound_as_they_are t runs s runs_are = subst RunsAreSound (sym runs_are) (sound_runs t.runs (table_fits t s))
@@ -104,15 +104,15 @@ sound_as_they_are t runs s runs_are = subst RunsAreSound (sym runs_are) (sound_r
 pub record Begun (t : TableState) (requested : Attempt) (begun : List RunState) (index : ℕ) : Type 0 where
   pub sound : IsSound t
   pub due : rerun_answer t requested ≡ None
-  pub begun_is : begun ≡ with_run (requested.run - 1) again t.runs
-  pub at_place : index ≡ requested.run - 1
+  pub begun_is : begun ≡ with_run (index_of t requested.run) again t.runs
+  pub at_place : index ≡ index_of t requested.run
 
 pub has_begun : (t : TableState) (requested : Attempt) (runs begun : List RunState) (index : ℕ) → IsSound t → rerun_answer t requested ≡ None
-    → runs ≡ t.runs → begun ≡ with_run index again runs → index ≡ requested.run - 1 → Begun t requested begun index
+    → runs ≡ t.runs → begun ≡ with_run index again runs → index ≡ index_of t requested.run → Begun t requested begun index
 has_begun t requested runs begun index s due runs_are begun_is place_is = record {
   sound = s;
   due = due;
-  begun_is = begun_is ∙ ap (λ n. with_run n again runs) place_is ∙ ap (with_run (requested.run - 1) again) runs_are;
+  begun_is = begun_is ∙ ap (λ n. with_run n again runs) place_is ∙ ap (with_run (index_of t requested.run) again) runs_are;
   at_place = place_is;
 }
 
@@ -120,16 +120,16 @@ pub begun_arrives : {t : TableState} {requested : Attempt} {begun : List RunStat
     → MayArrive begun (Run index)
 begun_arrives {t} {requested} {begun} {index} b =
     subst (λ (xs : List RunState). MayArrive xs (Run index)) (sym b.begun_is)
-    (subst (λ (n : ℕ). MayArrive (with_run (requested.run - 1) again t.runs) (Run n)) (sym b.at_place)
-    (again_arrives t (requested.run - 1) requested.attempt b.sound (begins_again t requested b.due)))
+    (subst (λ (n : ℕ). MayArrive (with_run (index_of t requested.run) again t.runs) (Run n)) (sym b.at_place)
+    (again_arrives t (index_of t requested.run) requested.attempt b.sound (begins_again t requested b.due)))
 
 pub begun_settles : {t : TableState} {requested : Attempt} {begun : List RunState} {index : ℕ} → Begun t requested begun index
     → (new : List RunState) → new ≡ (arrived (Run index) begun).runs → MaySettle new
 begun_settles {t} {requested} {begun} {index} b new new_is =
-    let is : new ≡ (entered_again t (requested.run - 1)).runs =
+    let is : new ≡ (entered_again t (index_of t requested.run)).runs =
     new_is ∙ ap (λ n. (arrived (Run n) begun).runs) b.at_place
-    ∙ ap (λ xs. (arrived (Run (requested.run - 1)) xs).runs) b.begun_is in
-    subst MaySettle (sym is) (again_may_settle t (requested.run - 1) requested.attempt b.sound (begins_again t requested b.due))
+    ∙ ap (λ xs. (arrived (Run (index_of t requested.run)) xs).runs) b.begun_is in
+    subst MaySettle (sym is) (again_may_settle t (index_of t requested.run) requested.attempt b.sound (begins_again t requested b.due))
 
 -- ---- a leg is leased
 

@@ -1,5 +1,5 @@
 -- A run of which another attempt begins has completed the attempt before, so no runner is at work on a leg of it.
-use Rattle.std.specs.Prelude.{◌≡◌, ℕ, ◌+◌, ◌-◌, ◌<◌, List, Bool, true, false, is_some, nat_eq, nat_le, Option, Some, None, option_and_then}
+use Rattle.std.specs.Prelude.{◌≡◌, ℕ, ◌+◌, ◌<◌, List, Bool, true, false, is_some, nat_eq, nat_le, Option, Some, None, option_and_then}
 use Rattle.std.specs.Prelude.{slice_get, if◌then◌else◌, refl}
 use Rattle.std.specs.Option.{option_map_or}
 use Rattle.std.proofs.Common.{inl, inr, subst}
@@ -22,7 +22,7 @@ use Rattle.table_model.specs.declared.phases.LegPhase.TheVariants as leg
 use Rattle.table_model.specs.declared.phases.RunPhase.{RunPhase}
 use Rattle.table_model.specs.declared.phases.RunPhase.TheVariants as run
 use Rattle.table_model.specs.Step.{answer_of_attempt, answer_of_next, has_completed, refused, rerun_answer}
-use Rattle.table_model.specs.TableState.{TableState}
+use Rattle.table_model.specs.TableState.{TableState, index_of}
 use Rattle.table_model.proofs.JobKeeps.{no_leg}
 use Rattle.table_model.proofs.LegReads.{work_of, works_in, works_in_job}
 use Rattle.table_model.proofs.Optional.{each_passes}
@@ -69,8 +69,16 @@ begins_at runs r requested (Some x) is none =
     let found = begins x requested none in
     record { was = x; there = is; ended = found.0; next = found.1; below = found.2 }
 
-pub begins_again : (t : TableState) (requested : Attempt) → rerun_answer t requested ≡ None → BeginsAgain t.runs (requested.run - 1) requested.attempt
-begins_again t requested none = begins_at t.runs (requested.run - 1) requested (run_at t.runs (requested.run - 1)) refl none
+pub begins_again : (t : TableState) (requested : Attempt) → rerun_answer t requested ≡ None
+    → BeginsAgain t.runs (index_of t requested.run) requested.attempt
+begins_again t requested none =
+    let r = index_of t requested.run in
+    elim (nat_le requested.run t.forgotten.through) as
+    (λ b. option_map_or (λ x. answer_of_attempt x requested) (if b then None else run_at t.runs r) (Some (refused NoRun)) ≡ None
+    → BeginsAgain t.runs r requested.attempt) [
+      | true ↦ λ due. absurd (cc due)
+      | false ↦ λ due. begins_at t.runs r requested (run_at t.runs r) refl due
+    ] none
 
 -- ---- the legs of a run that has ended
 

@@ -7,6 +7,7 @@ use Rattle.run_plan.specs.declared.command.Claim.{Claim as Claimed}
 use Rattle.run_plan.specs.declared.command.Command.TheVariants as command
 use Rattle.run_plan.specs.declared.reply.Reply.TheVariants as reply
 use Rattle.run_plan.specs.declared.last_command.ClaimReply.TheVariants as given
+use Rattle.table_model.specs.Forgotten.{none_forgotten}
 use Rattle.table_model.specs.Step.{step, empty, claiming_runner, refused}
 use Rattle.table_model.specs.Runs.{blocked_job, JobState, RunState}
 use Rattle.table_model.specs.Stops.{outcome_of_loss, stopped_run, stopped_where}
@@ -63,7 +64,7 @@ job_goes_on : stopped_where false (open_job (unclaimed leg.Ready ∷ claimed leg
 job_goes_on = refl
 
 abbrev pub table_of : RunState → List RunnerState → TableState
-table_of one runners = record { last_lease = 1; runs = one ∷ []; runners = runners }
+table_of one runners = record { last_lease = 1; forgotten = none_forgotten; runs = one ∷ []; runners = runners }
 
 cancel_of_no_run : step empty (command.Cancel 1) ≡ (empty, refused NoRun)
 cancel_of_no_run = refl

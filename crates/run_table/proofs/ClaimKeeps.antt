@@ -21,7 +21,6 @@ use Rattle.wf_value.specs.declared.outcome.JobResult.{JobResult}
 use Rattle.table_model.specs.LegContext.{planned_legs}
 use Rattle.table_model.specs.declared.phases.JobPhase.{JobPhase}
 use Rattle.table_model.specs.declared.phases.JobPhase.TheVariants as job
-use Rattle.table_model.proofs.Numbered.{ids_stay, numbers_stay}
 use Rattle.table_model.proofs.Optional.{from_and_then, from_map}
 use Rattle.table_model.specs.Step.{refused, has_no_lease_left, claim_answer, claiming_runner, kept_lease_at}
 use Rattle.table_model.specs.TableState.{RunnerState, TableState, runner_named, answer_by_number, with_runner, holds_lease}
@@ -32,7 +31,7 @@ use Rattle.table_model.proofs.Found.{find_passes}
 use Rattle.run_table.proofs.AtWork.{at_work, one_at_work, at_most_one, fewer_in_job, most_same}
 use Rattle.table_model.proofs.JobKeeps.{leg_in, leg_stays, leg_now, leg_elsewhere, job_is_now, with_leg_of}
 use Rattle.settling_laws.proofs.Lowered.{sum_of_changed}
-use Rattle.run_table.proofs.Kept.{IsKept, KeptIsHad, WasHad, attempts_still_given, kept_still_had, stay_still_had, lease_reply_same, deliveries_still_differ}
+use Rattle.run_table.proofs.Kept.{IsKept, KeptIsHad, WasHad, attempts_still_given, kept_still_had, stay_still_had, lease_reply_same, still_identified}
 use Rattle.table_model.proofs.LeaseReads.{ChangesAt, names_same, place_or_another, lease_given, leases_same}
 use Rattle.table_model.proofs.LegReads.{work_of, had_at, works_at, had_is, works_is, had_from_leg, works_from_leg}
 use Rattle.table_model.proofs.RunFits.{RunsFit, admitted_at, planned_legs_same, jobs_fit, leases_fit}
@@ -183,10 +182,7 @@ serving_keeps t claim s none =
     (looked_first (holds_lease runner) (has_no_lease_left t claim) (refused HasLease) (refused LastCounter) looked.1).0 in
     let changes = holds_changes t.runners new in
     record {
-      few_runs = s.few_runs;
-      ids_follow = s.ids_follow;
-      numbers_follow = s.numbers_follow;
-      deliveries_differ = s.deliveries_differ;
+      identified = s.identified;
       attempts_are_given = s.attempts_are_given;
       fit = s.fit;
       parallel_bounded = s.parallel_bounded;
@@ -243,7 +239,7 @@ leg_is_planned runs fit p z e =
 
 pub leasing_keeps : (t : TableState) (claim : Claimed) (p : LegSite) → IsKept t → claim_answer t claim ≡ None
     → first_fit claim.labels t.runs ≡ Some p
-    → IsKept (record {
+    → IsKept (record t {
       last_lease = t.last_lease + 1;
       runs = with_leg p (λ _. leased_leg (t.last_lease + 1)) t.runs;
       runners =
@@ -287,10 +283,7 @@ leasing_keeps t claim p s none fit =
       had = (λ e. had.here);
     } in
     record {
-      few_runs = subst (λ (n : ℕ). n ≤ 100000) (sym stay.same_length) s.few_runs;
-      ids_follow = ids_stay t.runs next stay.same_identity s.ids_follow;
-      numbers_follow = numbers_stay t.runs next stay.same_identity s.numbers_follow;
-      deliveries_differ = deliveries_still_differ t.runs next (admitted_stays t.runs next stay) s.deliveries_differ;
+      identified = still_identified t.forgotten t.runs next stay.same_length stay.same_identity s.identified;
       attempts_are_given = attempts_still_given t.runs next stay.same_attempt s.attempts_are_given;
       fit = stay.fit;
       parallel_bounded = leased_bounded t.runs p z (λ _. leased_leg lease) ready.is (fitting_room claim.labels t.runs p fit)

@@ -16,7 +16,7 @@ use Rattle.table_model.specs.inner.Claims.{is_claim}
 use Rattle.table_model.specs.TableState.{Step, TableState, runner_named}
 use Rattle.table_model.specs.Step.{admission_answer, admitting, beat_answer, cancel_answer, cancelling, claim_answer, claiming, fetch_answer}
 use Rattle.table_model.specs.Step.{read_only_reply as answer_of, is_allocation_free, look_answer, losing, lost, refused, released, report_answer, reporting}
-use Rattle.table_model.specs.Step.{rerun_answer, rerunning, step, stepped, unchanged}
+use Rattle.table_model.specs.Step.{discharge_answer, discharging, forget_answer, forgetting, rerun_answer, rerunning, step, stepped, unchanged}
 
 abbrev Stays : TableState → Step → Type 0
 Stays t s = carries_text s.reply ≡ true → s.table ≡ t
@@ -49,6 +49,8 @@ text_stays t (command.Lost name) other = lost_stays t name
 text_stays t (command.Fetch id) other = λ text. refl
 text_stays t (command.Look id) other = λ text. refl
 text_stays t (command.Rerun requested) other = read_only_reply t (rerun_answer t requested) (rerunning t requested) refl
+text_stays t (command.Forget id) other = read_only_reply t (forget_answer t id) (forgetting t id) refl
+text_stays t (command.Discharge name) other = read_only_reply t (discharge_answer t name) (discharging t name) refl
 
 -- If the reply cannot be copied, it holds a text.
 pub copy_refused : {T : Type 0} (t next : TableState) (reply : Reply) (c : Command) (r : Result T Refusal) → is_claim c ≡ false
@@ -74,6 +76,8 @@ no_claim (command.Lost name) other = refl
 no_claim (command.Fetch id) other = refl
 no_claim (command.Look id) other = refl
 no_claim (command.Rerun requested) other = refl
+no_claim (command.Forget id) other = refl
+no_claim (command.Discharge name) other = refl
 
 -- ---- replies without a text
 
@@ -108,6 +112,8 @@ free_plain t (command.Lost name) free = lost_plain t name
 free_plain t (command.Fetch id) free = not-true (carries_text (fetch_answer t id)) free
 free_plain t (command.Look id) free = not-true (carries_text (look_answer t id)) free
 free_plain t (command.Rerun requested) free = plain_answer t (rerun_answer t requested) (rerunning t requested) free
+free_plain t (command.Forget id) free = plain_answer t (forget_answer t id) (forgetting t id) free
+free_plain t (command.Discharge name) free = plain_answer t (discharge_answer t name) (discharging t name) free
 
 -- Such a reply can be copied.
 pub copied_free : {T : Type 0} (t next : TableState) (reply : Reply) (c : Command) (r : Result T Refusal)

@@ -23,7 +23,6 @@ use Rattle.table_model.proofs.LeaseReads.{LeasesAgree}
 use Rattle.table_model.proofs.LegFacts.{attempt_at}
 use Rattle.table_model.proofs.LegReads.{had_at, had_in, work_of, works_at, works_in}
 use Rattle.table_model.proofs.NeedsSettled.{KeepsResults, result_in}
-use Rattle.table_model.proofs.Numbered.{ids_stay, numbers_stay}
 use Rattle.table_model.proofs.Optional.{from_map}
 use Rattle.table_model.proofs.RunFits.{RunFits, RunsFit, admitted_at}
 use Rattle.table_model.proofs.Settles.{Settles, fits_beside}
@@ -35,7 +34,7 @@ use Rattle.run_table.proofs.AdmitKeeps.{attempt_fits, no_lease}
 use Rattle.run_table.proofs.AtWork.{fewer_at_work}
 use Rattle.run_table.proofs.BeginsAgain.{BeginsAgain, no_work}
 use Rattle.run_table.proofs.Entered.{no_leg_of_new_run}
-use Rattle.run_table.proofs.Kept.{IsKept, StillHad, deliveries_still_differ, kept_settles, kept_still_had}
+use Rattle.run_table.proofs.Kept.{IsKept, StillHad, kept_settles, kept_still_had, still_identified}
 use Rattle.run_table.proofs.RunnerPut.{holds_at}
 use Rattle.table_model.specs.declared.holder.Holder.{Holder}
 use Rattle.table_model.specs.declared.holder.Holder.TheVariants.{Run, Leg}
@@ -254,10 +253,7 @@ again_keeps t r attempt s begins =
     let idle = no_work t.runs r x (s.fit r x begins.there) begins.ended in
     let fit = again_fits t.runs r s.fit in
     record {
-      few_runs = subst (λ (n : ℕ). n ≤ 100000) (sym (length-changed_at r again t.runs)) s.few_runs;
-      ids_follow = ids_stay t.runs next (again_identity t.runs r) s.ids_follow;
-      numbers_follow = numbers_stay t.runs next (again_identity t.runs r) s.numbers_follow;
-      deliveries_differ = deliveries_still_differ t.runs next (again_admitted t.runs r) s.deliveries_differ;
+      identified = still_identified t.forgotten t.runs next (length-changed_at r again t.runs) (again_identity t.runs r) s.identified;
       attempts_are_given = again_is_given t.runs r x begins.there begins.below s.attempts_are_given;
       fit = fit;
       parallel_bounded = fewer_at_work t.runs next fit (again_admitted t.runs r)

@@ -1,17 +1,18 @@
 -- The invariants of every table in the middle of a step: all those at a fixpoint, except that no rule applies.
-use Rattle.std.specs.Prelude.{◌≡◌, ℕ, ◌+◌, ◌<◌, ◌≤◌, List, [], length, Bool, true, Option, Some, None, option_map, option_and_then, slice_get}
-use Rattle.std.specs.Prelude.{if◌then◌else◌, refl}
+use Rattle.std.specs.Prelude.{◌≡◌, ℕ, suc, ◌+◌, ◌<◌, ◌≤◌, List, [], ◌∷◌, ◌++◌, length, Bool, true, Option, Some, None, option_map, option_and_then}
+use Rattle.std.specs.Prelude.{slice_get, if◌then◌else◌, refl}
 use Rattle.std.specs.Option.{option_map_or}
 use Rattle.std.proofs.Common.{arith, ap, ap₂, sym, ◌∙◌, subst}
 use Rattle.std.proofs.lemmas.Option.{same_Some}
 use Rattle.definitions.specs.Limits.{last_attempt, last_number}
+use Rattle.table_model.specs.Forgotten.{ForgottenRuns, deliveries_of}
 use Rattle.table_model.specs.Groups.{HasOneEach}
 use Rattle.run_plan.specs.declared.planned.PlannedJob.{PlannedJob}
 use Rattle.run_plan.specs.declared.reply.Lease.{Lease as Leased}
 use Rattle.table_model.specs.Runs.{run_at, leg_at, LegState, RunState}
 use Rattle.table_model.specs.declared.sites.LegSite.{LegSite}
 use Rattle.table_model.specs.Settling.{first_site, settled}
-use Rattle.table_model.specs.Sound.{DeliveriesDiffer, IdsFollow, NumbersFollow, LeasesAreGiven, LeasesDiffer, IsHeld, IsAtWork, WorkIsHeld}
+use Rattle.table_model.specs.Sound.{DeliveriesDiffer, ForgottenFit, IdsFollow, NumbersFollow, LeasesAreGiven, LeasesDiffer, IsHeld, IsAtWork, WorkIsHeld}
 use Rattle.table_model.specs.Fitting.{is_at_work}
 use Rattle.table_model.specs.LegContext.{planned_legs}
 use Rattle.table_model.specs.Sound.{HeldIsAtWork, HeldOnce, LastsAreOwn, AttemptsAreGiven, KeptIsOfALeg, IsSound, ParallelIsBounded}
@@ -22,18 +23,18 @@ use Rattle.run_plan.specs.declared.last_command.LastCommand.TheVariants as last
 use Rattle.run_plan.specs.declared.last_command.ClaimReply.TheVariants as given
 use Rattle.run_plan.specs.declared.last_command.KeptLease.{KeptLease}
 use Rattle.run_table.proofs.AtWork.{settling_bounded}
-use Rattle.table_model.proofs.Identity.{identity_at, same_admitted, same_id}
+use Rattle.table_model.proofs.Identity.{Identity, identity_at, identity_in, identity_of, same_admitted, same_id}
 use Rattle.table_model.proofs.LeaseReads.{LeasesAgree, leases_same}
 use Rattle.table_model.proofs.LegFacts.{attempt_at}
 use Rattle.table_model.proofs.LegReads.{had_at, works_at, had_from_leg, works_from_leg, leg_from_had, leg_from_works, work_parts}
 use Rattle.table_model.proofs.Numbered.{ids_stay, numbers_stay}
 use Rattle.table_model.proofs.Optional.{from_and_then, from_map}
-use Rattle.table_model.proofs.RunFits.{RunsFit, admitted_at, plan_at_same, runs_fit, jobs_are_the_plans, run_phases_fit, jobs_fit}
+use Rattle.table_model.proofs.RunFits.{RunsFit, plan_at_same, runs_fit, jobs_are_the_plans, run_phases_fit, jobs_fit}
 use Rattle.table_model.proofs.RunFits.{needs_come_first, leases_fit}
 use Rattle.settling_laws.proofs.OneEachRules.{settled_one_each}
 use Rattle.settling_laws.proofs.Rests.{settled_has_no_place}
 use Rattle.run_table.proofs.RunnerPut.{apart, found_by_name, has_the_name, holds_at, stood}
-use Rattle.table_model.proofs.Settles.{Settles, admitted_stays}
+use Rattle.table_model.proofs.Settles.{Settles}
 use Rattle.settling_laws.proofs.SettlingKeeps.{settling_settles}
 
 -- A kept lease was granted and names a leg of the run's plan, in an attempt up to the current one. If that is the
@@ -57,11 +58,17 @@ KeptIsHad most runs (last.Done report) = Unit {0}
 abbrev pub KeptAreHad : ℕ → List RunState → List RunnerState → Type 0
 KeptAreHad most runs runners = (k : ℕ) (x : RunnerState) → slice_get runners k ≡ Some x → KeptIsHad most runs x.last
 
+-- what holds of the ids, the numbers and the deliveries of runs, and of what is kept of the forgotten ones
+pub record AreIdentified (forgotten : ForgottenRuns) (runs : List RunState) : Type 0 where
+  pub few_runs : length runs ≤ 100000
+  pub last_id_in_range : forgotten.through + length runs ≤ last_number
+  pub forgotten_fit : ForgottenFit forgotten
+  pub ids_follow : IdsFollow forgotten runs
+  pub numbers_follow : NumbersFollow forgotten runs
+  pub deliveries_differ : DeliveriesDiffer (forgotten.deliveries ++ deliveries_of runs)
+
 pub record IsKept (t : TableState) : Type 0 where
-  pub few_runs : length t.runs ≤ 100000
-  pub ids_follow : IdsFollow t.runs
-  pub numbers_follow : NumbersFollow t.runs
-  pub deliveries_differ : DeliveriesDiffer t.runs
+  pub identified : AreIdentified t.forgotten t.runs
   pub attempts_are_given : AttemptsAreGiven t.runs
   pub fit : RunsFit t.runs
   pub parallel_bounded : ParallelIsBounded t.runs
@@ -233,10 +240,14 @@ stay_still_had runs next same attempts had =
 
 pub kept_from_sound : (t : TableState) → IsSound t → IsKept t
 kept_from_sound t s = record {
-  few_runs = s.few_runs;
-  ids_follow = s.ids_follow;
-  numbers_follow = s.numbers_follow;
-  deliveries_differ = s.deliveries_differ;
+  identified = record {
+    few_runs = s.few_runs;
+    last_id_in_range = s.last_id_in_range;
+    forgotten_fit = s.forgotten_fit;
+    ids_follow = s.ids_follow;
+    numbers_follow = s.numbers_follow;
+    deliveries_differ = s.deliveries_differ;
+  };
   attempts_are_given = s.attempts_are_given;
   fit = runs_fit t.runs s.jobs_are_the_plans s.run_phases_fit s.jobs_fit s.needs_finished_first s.leases_fit;
   parallel_bounded = s.parallel_bounded;
@@ -250,10 +261,12 @@ kept_from_sound t s = record {
 
 pub sound_from_kept : (t : TableState) → IsKept t → HasOneEach t.runs → first_site t.runs ≡ None → IsSound t
 sound_from_kept t s each rests = record {
-  few_runs = s.few_runs;
-  ids_follow = s.ids_follow;
-  numbers_follow = s.numbers_follow;
-  deliveries_differ = s.deliveries_differ;
+  few_runs = s.identified.few_runs;
+  last_id_in_range = s.identified.last_id_in_range;
+  forgotten_fit = s.identified.forgotten_fit;
+  ids_follow = s.identified.ids_follow;
+  numbers_follow = s.identified.numbers_follow;
+  deliveries_differ = s.identified.deliveries_differ;
   attempts_are_given = s.attempts_are_given;
   jobs_are_the_plans = jobs_are_the_plans t.runs s.fit;
   run_phases_fit = run_phases_fit t.runs s.fit;
@@ -279,24 +292,39 @@ sound_from_kept t s each rests = record {
   kept_leases_are_of_legs = (λ k x e. kept_is_of_a_leg t.last_lease t.runs x.last (s.kept_are_had k x e));
 }
 
--- ---- runs of the same events
+-- ---- runs of the same identities
 
-pub deliveries_still_differ : (runs next : List RunState) → ((r : ℕ) → admitted_at next r ≡ admitted_at runs r) → DeliveriesDiffer runs
-    → DeliveriesDiffer next
-deliveries_still_differ runs next same differ a b x y at bt e =
-    let adm = λ (v : RunState). v.admitted in
-    let f = from_map adm (run_at runs a) x.admitted (sym (same a) ∙ ap (option_map adm) at) in
-    let g = from_map adm (run_at runs b) y.admitted (sym (same b) ∙ ap (option_map adm) bt) in
-    differ a b f.value g.value f.is g.is (ap (λ d. d.delivery) f.gives ∙ e ∙ sym (ap (λ d. d.delivery) g.gives))
+no_identity : (x : RunState) → identity_in None ≡ identity_in (Some x) → ⊥
+no_identity x e = cc
+
+deliveries_same : (runs next : List RunState) → ((r : ℕ) → identity_at next r ≡ identity_at runs r) → deliveries_of next ≡ deliveries_of runs
+deliveries_same [] [] same = refl
+deliveries_same [] (y ∷ next) same = absurd (no_identity y (sym (same 0)))
+deliveries_same (x ∷ runs) [] same = absurd (no_identity x (same 0))
+deliveries_same (x ∷ runs) (y ∷ next) same =
+    ap₂ (λ (d : List ℕ) (ds : List (List ℕ)). d ∷ ds)
+    (ap (λ (i : Identity). i.admitted.delivery) (same_Some (identity_of y) (identity_of x) (same 0)))
+    (deliveries_same runs next (λ r. same (suc r)))
+
+pub still_identified : (forgotten : ForgottenRuns) (runs next : List RunState) → length next ≡ length runs
+    → ((r : ℕ) → identity_at next r ≡ identity_at runs r) → AreIdentified forgotten runs → AreIdentified forgotten next
+still_identified forgotten runs next long same are =
+    let few = are.few_runs in
+    let range = are.last_id_in_range in
+    record {
+      few_runs = omega (arith, long, few);
+      last_id_in_range = omega (arith, long, range);
+      forgotten_fit = are.forgotten_fit;
+      ids_follow = ids_stay forgotten runs next same are.ids_follow;
+      numbers_follow = numbers_stay forgotten runs next same are.numbers_follow;
+      deliveries_differ = subst (λ ds. DeliveriesDiffer (forgotten.deliveries ++ ds)) (sym (deliveries_same runs next same)) are.deliveries_differ;
+    }
 
 -- ---- the runs of a table settle, or legs are stopped
 
 pub kept_settles : (t : TableState) (next : List RunState) → IsKept t → Settles t.runs next → IsKept (record t { runs = next })
 kept_settles t next s settling = record {
-  few_runs = subst (λ (n : ℕ). n ≤ 100000) (sym settling.stay.same_length) s.few_runs;
-  ids_follow = ids_stay t.runs next settling.stay.same_identity s.ids_follow;
-  numbers_follow = numbers_stay t.runs next settling.stay.same_identity s.numbers_follow;
-  deliveries_differ = deliveries_still_differ t.runs next (admitted_stays t.runs next settling.stay) s.deliveries_differ;
+  identified = still_identified t.forgotten t.runs next settling.stay.same_length settling.stay.same_identity s.identified;
   attempts_are_given = attempts_still_given t.runs next settling.stay.same_attempt s.attempts_are_given;
   fit = settling.stay.fit;
   parallel_bounded = settling_bounded t.runs next settling s.parallel_bounded;

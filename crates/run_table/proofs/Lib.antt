@@ -9,13 +9,17 @@ pub mod ClaimedCells
 pub mod CommandsOneEach
 mod ContextRows
 pub mod Copied
+pub mod Discharged
 pub mod Entered
 pub mod EnteredAgain
+mod ForgetRows
+pub mod Forgetting
 pub mod HeldAtWork
 pub mod JobsText
 pub mod JoinedLegs
 pub mod KeepsSound
 pub mod Kept
+pub mod KnownDeliveries
 pub mod Leased
 pub mod LegHeld
 pub mod OnTables

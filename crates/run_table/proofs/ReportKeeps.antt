@@ -28,10 +28,9 @@ use Rattle.run_table.proofs.ClaimKeeps.{had_changes, works_changes}
 use Rattle.table_model.proofs.Found.{find_passes, none_found}
 use Rattle.table_model.proofs.JobKeeps.{leg_in, leg_stays, job_is_now, job_is_open, with_leg_of}
 use Rattle.settling_laws.proofs.HolderPlaces.{each_leg_place}
-use Rattle.run_table.proofs.Kept.{IsKept, KeptIsHad, StillHad, attempts_still_given, stay_still_had, kept_settles, kept_still_had, deliveries_still_differ}
+use Rattle.run_table.proofs.Kept.{IsKept, KeptIsHad, StillHad, attempts_still_given, stay_still_had, kept_settles, kept_still_had, still_identified}
 use Rattle.table_model.proofs.LeaseReads.{ChangesAt, place_or_another, lease_ended, leases_same}
 use Rattle.table_model.proofs.LegReads.{had_at, works_at, had_is, had_from_leg, works_from_leg, leg_from_had, work_parts}
-use Rattle.table_model.proofs.Numbered.{ids_stay, numbers_stay}
 use Rattle.table_model.proofs.Settles.{StayFit, admitted_stays, stay_on}
 use Rattle.run_table.proofs.RunnerOrder.{names_still_rise}
 use Rattle.run_table.proofs.RunnerPut.{each_put, holds_at, holds_changes, stood}
@@ -115,10 +114,7 @@ module _ (t : TableState) (new : RunnerState) (lease : ℕ) (result : Outcome) (
       let same = same_had p z from.is changes in
       let still : StillHad t.runs next = stay_still_had t.runs next stay.same_identity stay.same_attempt (λ q n h. same q ∙ h) in
       record {
-        few_runs = subst (λ (n : ℕ). n ≤ 100000) (sym stay.same_length) s.few_runs;
-        ids_follow = ids_stay t.runs next stay.same_identity s.ids_follow;
-        numbers_follow = numbers_stay t.runs next stay.same_identity s.numbers_follow;
-        deliveries_differ = deliveries_still_differ t.runs next (admitted_stays t.runs next stay) s.deliveries_differ;
+        identified = still_identified t.forgotten t.runs next stay.same_length stay.same_identity s.identified;
         attempts_are_given = attempts_still_given t.runs next stay.same_attempt s.attempts_are_given;
         fit = stay.fit;
         parallel_bounded = fewer_at_work t.runs next stay.fit (admitted_stays t.runs next stay)

@@ -1,21 +1,23 @@
 -- Runners in the order of their names: the index of the runner with a name, or the index where it would be inserted.
-use Rattle.std.specs.Prelude.{◌≡◌, ◌⊎◌, ℕ, zero, suc, ◌<◌, ◌≤◌, List, [], ◌∷◌, ◌++◌, length, filter, find, Bool, true, false}
+use Rattle.std.specs.Prelude.{◌≡◌, ◌⊎◌, ℕ, zero, suc, ◌<◌, ◌≤◌, List, [], ◌∷◌, ◌++◌, length, filter, find, not, Bool, true, false}
 use Rattle.std.specs.Prelude.{cond, if◌then◌else◌, is_some, Option, Some, None, option_and_then, slice_get, slice_set, OnErr, Result, Ok}
 use Rattle.std.specs.Prelude.{Err, refl}
-use Rattle.std.specs.List.{AllByRecursion, AllWithin, insert}
+use Rattle.std.specs.List.{AllByRecursion, insert, remove}
 use Rattle.std.specs.List.Sorted.{IsPartitionedBy}
 use Rattle.std.specs.Cmp.Lexicographic.{nat_list_cmp_total}
 use Rattle.std.specs.Ordering.{is_lt, is_eq, ordering_reverse}
 use Rattle.std.specs.declared.cmp.Ordering.TheVariants.{Less, Equal, Greater}
 use Rattle.std.proofs.Common.{arith, ap, sym, ◌∙◌, subst, inl, inr, get_or, length-append}
 use Rattle.std.proofs.lemmas.Bool.{and_from, cases_lt, true≢false}
+use Rattle.std.proofs.lemmas.List.Elements.{filter-append}
 use Rattle.std.proofs.lemmas.Map.Lookups.{exact_bytes}
 use Rattle.std.proofs.lemmas.Map.Text.{is_eq-slice_cmp}
 use Rattle.wf_value.specs.Gives.{Gives}
 use Rattle.wf_value.specs.declared.refusal.Refusal.{Refusal}
 use Rattle.wf_value.proofs.Rising.{Equal-from_same, Less-from_is_lt, after_less, earlier_below, name_cmp, rises_next, rises_rest}
 use Rattle.wf_value.proofs.PassedOn.{same_Ok}
-use Rattle.table_model.specs.TableState.{RunnerState, is_named, is_below, is_above, kept_named, names_rise, runner_named, with_runner}
+use Rattle.table_model.specs.TableState.{RunnerState, is_named, is_below, is_above, kept_named, names_rise, runner_named, with_runner, without_runner}
+use Rattle.table_model.proofs.Filters.{all_filter, all_pass, filter_all, filter_drops, filter_keeps, filter_none}
 use Rattle.table_model.proofs.Found.{all_weaken, all_append, each_at}
 
 -- ---- two names
@@ -26,84 +28,6 @@ after_greater x y h = nat_list_cmp_total.antisymm y x ∙ ap ordering_reverse h
 -- whether it is a runner's name, by the order of names
 pub named_by_order : (name : List ℕ) (x : RunnerState) → is_named name x ≡ is_eq (name_cmp x.name name)
 named_by_order name x = sym (is_eq-slice_cmp x.name name)
-
--- ---- what a filter keeps
-
-module _ {X : Type 0} (test : X → Bool) where
-  pub filter_keeps : (x : X) (xs : List X) → test x ≡ true → filter test (x ∷ xs) ≡ x ∷ filter test xs
-  filter_keeps x xs e = ap (λ b. cond b (x ∷ filter test xs) (filter test xs)) e
-
-  pub filter_drops : (x : X) (xs : List X) → test x ≡ false → filter test (x ∷ xs) ≡ filter test xs
-  filter_drops x xs e = ap (λ b. cond b (x ∷ filter test xs) (filter test xs)) e
-
-  pub filter_all : (xs : List X) → AllByRecursion (λ x. test x ≡ true) xs → filter test xs ≡ xs
-  filter_all [] h = refl
-  filter_all (x ∷ xs) h = filter_keeps x xs h.0 ∙ ap (λ ys. x ∷ ys) (filter_all xs h.1)
-
-  pub filter_none : (xs : List X) → AllByRecursion (λ x. test x ≡ false) xs → filter test xs ≡ []
-  filter_none [] h = refl
-  filter_none (x ∷ xs) h = filter_drops x xs h.0 ∙ filter_none xs h.1
-
-  pub all_filter : (P : X → Type 0) (xs : List X) → AllByRecursion P xs → AllByRecursion P (filter test xs)
-  all_filter P [] h = tt
-  all_filter P (x ∷ xs) h =
-      elim (test x) as (λ b. AllByRecursion P (cond b (x ∷ filter test xs) (filter test xs))) [
-        | true ↦ (h.0, all_filter P xs h.1)
-        | false ↦ all_filter P xs h.1
-      ]
-
-  pub all_pass : (xs : List X) → AllByRecursion (λ x. test x ≡ true) (filter test xs)
-  all_pass [] = tt
-  all_pass (x ∷ xs) =
-      elim (test x) as (λ b. test x ≡ b → AllByRecursion (λ y. test y ≡ true) (cond b (x ∷ filter test xs) (filter test xs))) [
-        | true ↦ λ is. (is, all_pass xs)
-        | false ↦ λ is. all_pass xs
-      ] refl
-
-  -- the elements before the index pass, and no later one does
-  pub prefix_counted : (xs : List X) (i : ℕ) → i ≤ length xs → AllWithin (λ x. test x ≡ true) xs 0 i
-      → AllWithin (λ x. test x ≡ false) xs i (length xs) → i ≡ length (filter test xs)
-  prefix_counted [] i le pass fail = omega arith
-  prefix_counted (x ∷ xs) zero le pass fail =
-      prefix_counted xs zero (omega arith) (λ k d lo hi. absurd (omega arith)) (λ k d lo hi. fail (suc k) d (omega arith) (omega arith))
-      ∙ ap length (sym (filter_drops x xs (fail zero x (omega arith) (omega arith))))
-  prefix_counted (x ∷ xs) (suc i) le pass fail =
-      ap suc (prefix_counted xs i (omega arith) (λ k d lo hi. pass (suc k) d (omega arith) (omega arith))
-      (λ k d lo hi. fail (suc k) d (omega arith) (omega arith)))
-      ∙ ap length (sym (filter_keeps x xs (pass zero x (omega arith) (omega arith))))
-
--- what a test finds, if another test keeps all that it takes, or none of it
-module _ {X : Type 0} (test keep : X → Bool) where
-  pub find_kept : ((x : X) → test x ≡ true → keep x ≡ true) → (xs : List X) → find test (filter keep xs) ≡ find test xs
-  find_kept h [] = refl
-  find_kept h (x ∷ xs) =
-      elim (keep x) as (λ b. keep x ≡ b
-      → find test (cond b (x ∷ filter keep xs) (filter keep xs)) ≡ cond (test x) (Some x) (find test xs)) [
-        | true ↦ λ is. ap (cond (test x) (Some x)) (find_kept h xs)
-        | false ↦ λ is. find_kept h xs ∙ sym (ap (λ b. cond b (Some x) (find test xs)) (not_taken x is))
-      ] refl
-    where
-      not_taken : (x : X) → keep x ≡ false → test x ≡ false
-      not_taken x lost =
-          elim (test x) as (λ b. test x ≡ b → b ≡ false) [
-            | true ↦ λ taken. absurd (true≢false (sym (h x taken) ∙ lost))
-            | false ↦ λ _. refl
-          ] refl
-
-  pub find_gone : ((x : X) → test x ≡ true → keep x ≡ false) → (xs : List X) → find test (filter keep xs) ≡ None
-  find_gone h [] = refl
-  find_gone h (x ∷ xs) =
-      elim (keep x) as (λ b. keep x ≡ b → find test (cond b (x ∷ filter keep xs) (filter keep xs)) ≡ None) [
-        | true ↦ λ is. ap (λ b. cond b (Some x) (find test (filter keep xs))) (not_taken x is) ∙ find_gone h xs
-        | false ↦ λ is. find_gone h xs
-      ] refl
-    where
-      not_taken : (x : X) → keep x ≡ true → test x ≡ false
-      not_taken x held =
-          elim (test x) as (λ b. test x ≡ b → b ≡ false) [
-            | true ↦ λ taken. absurd (true≢false (sym held ∙ h x taken))
-            | false ↦ λ _. refl
-          ] refl
 
 -- ---- runners above a name
 
@@ -249,6 +173,14 @@ set_at_the_seam : {X : Type 0} (prefix back : List X) (x y : X) → slice_set (p
 set_at_the_seam [] back x y = refl
 set_at_the_seam (z ∷ prefix) back x y = ap (λ ys. z ∷ ys) (set_at_the_seam prefix back x y)
 
+removed_at_the_seam : {X : Type 0} (prefix back : List X) (x : X) → remove (prefix ++ x ∷ back) (length prefix) ≡ prefix ++ back
+removed_at_the_seam [] back x = refl
+removed_at_the_seam (z ∷ prefix) back x = ap (λ ys. z ∷ ys) (removed_at_the_seam prefix back x)
+
+-- a runner of another name
+abbrev is_another : List ℕ → RunnerState → Bool
+is_another name runner = not (is_named name runner)
+
 inserted_at_the_seam : {X : Type 0} (prefix back : List X) (y : X) → insert (prefix ++ back) (length prefix) y ≡ prefix ++ y ∷ back
 inserted_at_the_seam [] back y = refl
 inserted_at_the_seam (z ∷ prefix) back y = ap (λ ys. z ∷ ys) (inserted_at_the_seam prefix back y)
@@ -336,9 +268,29 @@ module _ (runners : List RunnerState) (name : List ℕ) (h : names_rise runners 
             ∙ ap (λ n. filter (is_below n) runners ++ new ∷ filter (is_above n) runners) (sym same)
       ]
 
+  -- the runner of the name is removed
+  pub taken_out : is_some (runner_named runners name) ≡ true → remove runners index ≡ without_runner runners name
+  taken_out known =
+      let a = around runners name h in
+      let prefix = filter (is_below name) runners in
+      let later = filter (is_above name) runners in
+      elim a.ends [
+        | inl there ↦
+            let whole : runners ≡ prefix ++ there.runner ∷ later = a.whole ∙ ap (λ back. prefix ++ back) there.is in
+            ap (remove runners) at ∙ ap (λ xs. remove xs (length prefix)) whole ∙ removed_at_the_seam prefix later there.runner
+            ∙ sym (ap (λ xs. without_runner xs name) whole ∙ filter-append (is_another name) prefix (there.runner ∷ later)
+            ∙ ap (λ xs. xs ++ filter (is_another name) (there.runner ∷ later))
+            (filter_all (is_another name) prefix (all_weaken (λ r. is_below name r ≡ true) (λ r. is_another name r ≡ true)
+            (λ r e. ap not (named_by_order name r ∙ ap is_eq (Less-from_is_lt _ e))) prefix (all_pass (is_below name) runners)))
+            ∙ ap (λ xs. prefix ++ xs) (filter_drops (is_another name) there.runner later (ap not there.named)
+            ∙ filter_all (is_another name) later (all_weaken (λ r. is_above name r ≡ true) (λ r. is_another name r ≡ true)
+            (λ r e. ap not (above_not_named name r (Less-from_is_lt _ e))) later (all_pass (is_above name) runners))))
+        | inr absent ↦ absurd (absent_is_unknown (runner_named runners name) absent.found known)
+      ]
+
 -- ---- the order is kept
 
-rise_filtered : (test : RunnerState → Bool) (xs : List RunnerState) → names_rise xs ≡ true → names_rise (filter test xs) ≡ true
+pub rise_filtered : (test : RunnerState → Bool) (xs : List RunnerState) → names_rise xs ≡ true → names_rise (filter test xs) ≡ true
 rise_filtered test [] h = refl
 rise_filtered test (x ∷ xs) h =
     let rest = rise_filtered test xs (rises_rest (λ (r : RunnerState). r.name) x xs h) in

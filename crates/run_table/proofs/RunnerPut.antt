@@ -14,9 +14,10 @@ use Rattle.std.proofs.lemmas.Slice.Eq.{bytes_eq-Decides}
 use Rattle.wf_value.proofs.Rising.{Equal-from_same, after_less, name_cmp, names_apart}
 use Rattle.wf_value.proofs.OptionOr.{or_none}
 use Rattle.table_model.specs.TableState.{RunnerState, is_named, is_below, is_above, names_rise, runner_named, with_runner}
+use Rattle.table_model.proofs.Filters.{all_filter, find_gone, find_kept}
 use Rattle.table_model.proofs.Found.{all_append, each_at, find_passes, found_at, found_nowhere, none_found}
 use Rattle.table_model.proofs.LeaseReads.{ChangesAt}
-use Rattle.run_table.proofs.RunnerOrder.{after_greater, all_filter, find_gone, find_kept}
+use Rattle.run_table.proofs.RunnerOrder.{after_greater}
 
 -- ---- a runner and its name
 

@@ -1,17 +1,18 @@
 -- The size of the runners in the text of a table, as one of them is put in place.
-use Rattle.std.specs.Prelude.{◌≡◌, ℕ, zero, suc, ◌+◌, ◌-◌, ◌*◌, ◌<◌, ◌≤◌, List, [], ◌∷◌, length, sum_by, take, true}
+use Rattle.std.specs.Prelude.{◌≡◌, ℕ, zero, suc, ◌+◌, ◌-◌, ◌*◌, ◌<◌, ◌≤◌, List, [], ◌∷◌, length, not, sum_by, take, true}
 use Rattle.std.specs.Prelude.{Option, Some, None, if◌then◌else◌, option_and_then, slice_get, refl}
 use Rattle.std.specs.List.{AllByRecursion}
 use Rattle.std.specs.Option.{is_some, option_map_or}
 use Rattle.std.proofs.Common.{arith, ap, below_more, get_or, inl, inr, subst, sym, ◌∙◌}
-use Rattle.std.proofs.lemmas.Bool.{cases_Bool}
+use Rattle.std.proofs.lemmas.Bool.{cases_Bool, true≢false}
 use Rattle.std.proofs.lemmas.List.{length-take, take_all}
-use Rattle.std.proofs.lemmas.List.Sums.{get_or-le-sum_by, sum_by-cons, sum_by-insert, sum_by-set, sum_by_more}
+use Rattle.std.proofs.lemmas.List.Sums.{get_or-le-sum_by, sum_by-cons, sum_by-insert, sum_by-remove, sum_by-set, sum_by_more}
+use Rattle.table_model.proofs.Filters.{all_filter}
 use Rattle.table_model.proofs.Found.{each_at}
 use Rattle.run_table.specs.inner.IndexNamed.{index_named}
 use Rattle.run_table.specs.inner.RunnerSizes.{AreSized, max_runner_size, runner_size}
-use Rattle.table_model.specs.TableState.{is_named, kept_named, names_rise, runner_named, with_runner, RunnerState}
-use Rattle.run_table.proofs.RunnerOrder.{found_there, put_between, put_over}
+use Rattle.table_model.specs.TableState.{is_named, kept_named, names_rise, runner_named, with_runner, without_runner, RunnerState}
+use Rattle.run_table.proofs.RunnerOrder.{found_there, place_within, put_between, put_over, taken_out}
 use Rattle.run_table.proofs.RunnerPut.{all_from_each, each_put}
 
 -- the size of a runner that there may be
@@ -54,17 +55,21 @@ module _ (runners : List RunnerState) (rise : names_rise runners ≡ true) (new 
       ] refl
 
 -- a runner has no more bytes than all
-pub size_within : (runners : List RunnerState) → names_rise runners ≡ true → (new : RunnerState)
-    → size_of (runner_named runners new.name) ≤ sum_by runner_size runners
-size_within runners rise new =
-    elim (runner_named runners new.name)
-    as (λ o. runner_named runners new.name ≡ o → size_of o ≤ sum_by runner_size runners) [
+pub size_of_named : (runners : List RunnerState) → names_rise runners ≡ true → (name : List ℕ)
+    → size_of (runner_named runners name) ≤ sum_by runner_size runners
+size_of_named runners rise name =
+    elim (runner_named runners name)
+    as (λ o. runner_named runners name ≡ o → size_of o ≤ sum_by runner_size runners) [
       | None ↦ λ is. omega arith
       | Some x ↦ λ is.
-          let i = index_named runners new.name in
-          let at = at_place runners i x (kept_is new.name (slice_get runners i) x (there runners rise new ∙ is)) in
+          let i = index_named runners name in
+          let at = at_place runners i x (kept_is name (slice_get runners i) x (found_there runners name rise i refl ∙ is)) in
           omega (arith, get_or-le-sum_by runner_size runners i x at.0, ap runner_size at.1)
     ] refl
+
+pub size_within : (runners : List RunnerState) → names_rise runners ≡ true → (new : RunnerState)
+    → size_of (runner_named runners new.name) ≤ sum_by runner_size runners
+size_within runners rise new = size_of_named runners rise new.name
 
 -- ---- all runners
 
@@ -150,3 +155,29 @@ below_most runners i total within sized =
     of_prefix (r ∷ rs) zero k x at = cc
     of_prefix (r ∷ rs) (suc n) zero x at = at
     of_prefix (r ∷ rs) (suc n) (suc k) x at = of_prefix rs n k x at
+
+-- ---- without one
+
+-- without the runner of a name
+pub sized_without : (runners : List RunnerState) (name : List ℕ) (size gone : ℕ) → names_rise runners ≡ true
+    → is_some (runner_named runners name) ≡ true → gone ≡ size_of (runner_named runners name) → AreSized runners size
+    → AreSized (without_runner runners name) (size - gone)
+sized_without runners name size gone rise known is sized =
+    let i = index_named runners name in
+    let within = place_within runners name rise i refl known in
+    let out = taken_out runners name rise i refl known in
+    let there = found_there runners name rise i refl in
+    elim (runner_named runners name) as
+    (λ o. runner_named runners name ≡ o → AreSized (without_runner runners name) (size - gone)) [
+      | None ↦ λ none. absurd (true≢false (sym known ∙ ap (λ (o : Option RunnerState). is_some o) none))
+      | Some x ↦ λ found.
+          let at = at_place runners i x (kept_is name (slice_get runners i) x (there ∙ found)) in
+          let sum = sum_by-remove runner_size runners i x within in
+          let same = ap (λ (rs : List RunnerState). sum_by runner_size rs) (sym out) in
+          let its = ap runner_size at.1 in
+          let gone_is = is ∙ ap size_of found in
+          record {
+            is = omega (arith, sum, same, its, gone_is, sized.is);
+            small = all_filter (λ r. not (is_named name r)) (λ r. runner_size r ≤ max_runner_size) runners sized.small;
+          }
+    ] refl

@@ -1,5 +1,5 @@
 -- Every step preserves the invariants of a table, and the empty table has them.
-use Rattle.std.specs.Prelude.{◌≡◌, ℕ, ◌+◌, ◌-◌, List, Option, Some, None, refl}
+use Rattle.std.specs.Prelude.{◌≡◌, ℕ, ◌+◌, List, nat_le, true, false, Option, Some, None, if◌then◌else◌, refl}
 use Rattle.std.specs.Option.{option_map_or}
 use Rattle.std.proofs.Common.{arith}
 use Rattle.std.proofs.lemmas.Option.{none-some}
@@ -12,7 +12,7 @@ use Rattle.run_plan.specs.declared.command.Command.{Command}
 use Rattle.run_plan.specs.declared.command.Command.TheVariants as command
 use Rattle.run_plan.specs.declared.reply.Reply.{Reply}
 use Rattle.table_model.specs.Fitting.{first_fit}
-use Rattle.table_model.specs.TableState.{Step, TableState, runner_named, with_runner}
+use Rattle.table_model.specs.TableState.{Step, TableState, index_of, runner_named, with_runner, without_runner}
 use Rattle.table_model.specs.Runs.{run_at, with_leg, with_run, leased_leg, RunState}
 use Rattle.table_model.specs.declared.sites.LegSite.{LegSite}
 use Rattle.table_model.specs.Sound.{IsSound}
@@ -20,14 +20,17 @@ use Rattle.table_model.specs.Step.{empty, entered, unchanged, admission_answer, 
 use Rattle.table_model.specs.Step.{kept_lease_at, leasing, serving_nothing, claiming, claimed, report_answer, reporting_runner}
 use Rattle.table_model.specs.Step.{answer_of_run, cancel_answer, cancelling, cancelled, losing, lost, refused, released}
 use Rattle.table_model.specs.Stops.{outcome_of_loss, stopped_run, with_ended}
+use Rattle.table_model.specs.Step.{discharge_answer, discharged, discharging}
 use Rattle.table_model.specs.Step.{entered_again, reporting, reported, rerun, rerun_answer, rerunning, stepped, step}
 use Rattle.run_plan.specs.declared.last_command.ClaimReply.TheVariants as given
 use Rattle.run_table.proofs.ClaimKeeps.{serving_keeps, leasing_keeps}
 use Rattle.run_table.proofs.CommandsOneEach.{ended_one_each, leased_one_each, stopped_one_each}
 use Rattle.run_table.proofs.BeginsAgain.{begins_again}
+use Rattle.run_table.proofs.Discharged.{discharge_keeps}
 use Rattle.run_table.proofs.Entered.{entered_keeps, entered_one_each}
 use Rattle.run_table.proofs.EnteredAgain.{entered_again_keeps, entered_again_one_each}
-use Rattle.run_table.proofs.Kept.{kept_from_sound, kept_settles, rest_is_sound}
+use Rattle.run_table.proofs.Kept.{kept_from_sound, kept_settles, rest_is_sound, sound_from_kept}
+use Rattle.settling_laws.proofs.Forgot.{forgot_is_sound}
 use Rattle.settling_laws.proofs.OneEach.{none_of_each}
 use Rattle.run_table.proofs.ReportKeeps.{loss_keeps, loss_stays, report_keeps, report_stays}
 use Rattle.table_model.proofs.StopKeeps.{stopped_run_settles}
@@ -56,7 +59,7 @@ claiming_is_sound t claim s none =
     leased_is_sound : (p : LegSite) → first_fit claim.labels t.runs ≡ Some p → IsSound (leasing t claim p).table
     leased_is_sound p is =
         rest_is_sound
-        (record {
+        (record t {
           last_lease = t.last_lease + 1;
           runs = with_leg p (λ _. leased_leg (t.last_lease + 1)) t.runs;
           runners =
@@ -84,8 +87,14 @@ run_there : (o : Option RunState) → option_map_or (λ (x : RunState). answer_o
 run_there None none = cc
 run_there (Some x) none = (x, refl)
 
-pub run_to_cancel : (t : TableState) (id : ℕ) → cancel_answer t id ≡ None → (x : RunState) × (run_at t.runs (id - 1) ≡ Some x)
-run_to_cancel t id none = run_there (run_at t.runs (id - 1)) none
+pub run_to_cancel : (t : TableState) (id : ℕ) → cancel_answer t id ≡ None → (x : RunState) × (run_at t.runs (index_of t id) ≡ Some x)
+run_to_cancel t id none =
+    elim (nat_le id t.forgotten.through) as
+    (λ b. option_map_or (λ (x : RunState). answer_of_run x.phase x.stopping) (if b then None else run_at t.runs (index_of t id))
+    (Some (refused NoRun)) ≡ None → (x : RunState) × (run_at t.runs (index_of t id) ≡ Some x)) [
+      | true ↦ λ due. absurd (cc due)
+      | false ↦ λ due. run_there (run_at t.runs (index_of t id)) due
+    ] none
 
 cancelled_is_sound : (t : TableState) (id : ℕ) → IsSound t → IsSound (cancelled t id).table
 cancelled_is_sound t id s = answered_or_changed t (cancel_answer t id) (cancelling t id) s stopped_is_sound
@@ -93,18 +102,18 @@ cancelled_is_sound t id s = answered_or_changed t (cancel_answer t id) (cancelli
     stopped_is_sound : cancel_answer t id ≡ None → IsSound (cancelling t id).table
     stopped_is_sound none =
         let found = run_to_cancel t id none in
-        let next = with_run (id - 1) stopped_run t.runs in
+        let next = with_run (index_of t id) stopped_run t.runs in
         rest_is_sound (record t { runs = next })
         (kept_settles t next (kept_from_sound t s)
-        (stopped_run_settles t.runs (kept_from_sound t s).fit (id - 1) found.0 found.1))
-        (stopped_one_each (id - 1) t.runs (kept_from_sound t s).fit s.one_of_each_group)
+        (stopped_run_settles t.runs (kept_from_sound t s).fit (index_of t id) found.0 found.1))
+        (stopped_one_each (index_of t id) t.runs (kept_from_sound t s).fit s.one_of_each_group)
 
 rerun_is_sound : (t : TableState) (requested : Attempt) → IsSound t → IsSound (rerun t requested).table
 rerun_is_sound t requested s =
     answered_or_changed t (rerun_answer t requested) (rerunning t requested) s
     (λ none.
     let begins = begins_again t requested none in
-    let r = requested.run - 1 in
+    let r = index_of t requested.run in
     rest_is_sound (record t { runs = (entered_again t r).runs }) (entered_again_keeps t r requested.attempt (kept_from_sound t s) begins)
     (entered_again_one_each t r requested.attempt (kept_from_sound t s).fit begins s.one_of_each_group))
 
@@ -130,6 +139,13 @@ lost_is_sound t name s =
           ] refl
     ] refl
 
+-- a runner that holds no lease is dropped
+discharged_is_sound : (t : TableState) (name : List ℕ) → IsSound t → IsSound (discharged t name).table
+discharged_is_sound t name s =
+    answered_or_changed t (discharge_answer t name) (discharging t name) s
+    (λ none. sound_from_kept (record t { runners = without_runner t.runners name }) (discharge_keeps t name (kept_from_sound t s) none)
+    s.one_of_each_group s.no_rule_applies)
+
 pub stepped_is_sound : (t : TableState) (c : Command) → IsSound t → IsSound (stepped t c).table
 stepped_is_sound t (command.Admit event) s = admitted_is_sound t event s
 stepped_is_sound t (command.Claim claim) s = claimed_is_sound t claim s
@@ -140,6 +156,8 @@ stepped_is_sound t (command.Lost name) s = lost_is_sound t name s
 stepped_is_sound t (command.Fetch id) s = s
 stepped_is_sound t (command.Look id) s = s
 stepped_is_sound t (command.Rerun requested) s = rerun_is_sound t requested s
+stepped_is_sound t (command.Forget id) s = forgot_is_sound t id s
+stepped_is_sound t (command.Discharge name) s = discharged_is_sound t name s
 
 pub step_keeps : (t : TableState) (c : Command) → IsSound t → IsSound (step t c).0
 step_keeps t c s = stepped_is_sound t c s
@@ -147,9 +165,11 @@ step_keeps t c s = stepped_is_sound t c s
 pub empty_is_sound : IsSound empty
 empty_is_sound = record {
   few_runs = omega arith;
+  last_id_in_range = omega arith;
+  forgotten_fit = record { counts_in_order = refl; each_counts = tt; all_counted = refl; last_are_kept = omega arith };
   ids_follow = (λ r x e. absurd (none-some x e));
   numbers_follow = (λ r x e. absurd (none-some x e));
-  deliveries_differ = (λ a b x y e f g. cc);
+  deliveries_differ = (λ a b delivery e f. cc);
   attempts_are_given = (λ r x e. absurd (none-some x e));
   jobs_are_the_plans = (λ r x e. cc);
   run_phases_fit = (λ r x e. absurd (none-some x e));

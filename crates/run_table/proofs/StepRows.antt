@@ -16,6 +16,7 @@ use Rattle.run_plan.specs.declared.planned.PlannedJob.{PlannedJob}
 use Rattle.run_plan.specs.declared.command.Claim.{Claim as Claimed}
 use Rattle.run_plan.specs.declared.command.Command.TheVariants as command
 use Rattle.run_plan.specs.declared.reply.Reply.TheVariants as reply
+use Rattle.table_model.specs.Forgotten.{none_forgotten}
 use Rattle.table_model.specs.Settling.{started, decided, may_run, new_leg, opened, rule_at, finished_as}
 use Rattle.table_model.specs.Fitting.{site_of_lease}
 use Rattle.table_model.specs.LegContext.{context_at, all_have_results, is_set_for, needs_have_finished, planned_legs}
@@ -168,7 +169,7 @@ abbrev claim_of : ℕ → Claimed
 claim_of number = record { runner = codes "r1"; number = number; labels = codes "linux" ∷ [] }
 
 abbrev table_with : RunnerState → TableState
-table_with runner = record { last_lease = 0; runs = []; runners = runner ∷ [] }
+table_with runner = record { last_lease = 0; forgotten = none_forgotten; runs = []; runners = runner ∷ [] }
 
 abbrev served_nothing : RunnerState
 served_nothing = claiming_runner (claim_of 1) None given.Nothing
@@ -201,11 +202,17 @@ report_of_another_lease : step (table_with holding)
 report_of_another_lease = refl
 
 abbrev working : List ℕ → TableState
-working body = record { last_lease = 1; runs = run_with body run.Live (open_job (leased_leg 1 ∷ []) ∷ []) ∷ []; runners = holding ∷ [] }
+working body = record {
+  last_lease = 1;
+  forgotten = none_forgotten;
+  runs = run_with body run.Live (open_job (leased_leg 1 ∷ []) ∷ []) ∷ [];
+  runners = holding ∷ [];
+}
 
 abbrev failed : List ℕ → JobResult → TableState
 failed body r = record {
   last_lease = 1;
+  forgotten = none_forgotten;
   runs = failed_ended body r ∷ [];
   runners = reporting_runner (record { runner = codes "r1"; number = 3; lease = 1; result = outcome.Failure }) ∷ [];
 }
@@ -225,6 +232,7 @@ report_of_a_failure body planned_so =
     ap (λ plan. (
       record {
         last_lease = 1;
+        forgotten = none_forgotten;
         runs = settled (if stopped_by body plan then with_job 0 0 with_stopped_legs (failed_live body ∷ []) else failed_live body ∷ []);
         runners = reporting_runner (record { runner = codes "r1"; number = 3; lease = 1; result = outcome.Failure }) ∷ [];
       },

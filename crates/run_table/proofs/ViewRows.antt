@@ -9,7 +9,9 @@ use Rattle.wf_reader.specs.declared.flag.Flag.TheVariants as flag
 use Rattle.run_plan.specs.PlanOf.{plan_of}
 use Rattle.definitions.specs.SmallText.{Admitted}
 use Rattle.run_plan.specs.declared.planned.PlannedJob.{PlannedJob}
-use Rattle.table_model.specs.LegContext.{number_of_next}
+use Rattle.table_model.specs.Forgotten.{none_forgotten, number_of_next}
+use Rattle.table_model.specs.Step.{seen}
+use Rattle.table_model.specs.TableState.{TableState}
 use Rattle.table_model.specs.Runs.{LegState, JobState, RunState}
 use Rattle.table_model.specs.ViewText.{seen_of, seen_text, run_text}
 use Rattle.table_model.specs.declared.phases.JobPhase.{JobPhase}
@@ -118,8 +120,23 @@ look_at_a_second_attempt body planned_so = ap (λ plan. codes "run 1 1.2 " ++ ru
 -- the number counts the runs of the same repository and path: here the third run is the second of its workflow
 numbered_by_workflow : (ci cd : List ℕ) → (event_of ci).repo ≡ codes "o/r" → (event_of cd).repo ≡ codes "o/r"
     → (event_of ci).path ≡ codes "ci.json" → (event_of cd).path ≡ codes "cd.json"
-    → number_of_next (completed_run ci ∷ completed_run cd ∷ []) (admitted ci) ≡ 2
+    → number_of_next none_forgotten (completed_run ci ∷ completed_run cd ∷ []) (admitted ci) ≡ 2
 numbered_by_workflow ci cd ci_repo cd_repo ci_path cd_path = simp (ci_repo, cd_repo, ci_path, cd_path)
 
-no_such_run : (body : List ℕ) → seen_of (completed_run body ∷ []) 2 ≡ None
+-- a table with one run, of the id after those that are forgotten
+abbrev one_run : ℕ → List ℕ → TableState
+one_run through body = record {
+  last_lease = 0;
+  forgotten = record { through = through; counts = []; deliveries = [] };
+  runs = completed_run body ∷ [];
+  runners = [];
+}
+
+no_such_run : (body : List ℕ) → seen (one_run 0 body) 2 ≡ None
 no_such_run body = refl
+
+forgotten_run : (body : List ℕ) → seen (one_run 1 body) 1 ≡ None
+forgotten_run body = refl
+
+run_after_it : (body : List ℕ) → seen (one_run 1 body) 2 ≡ Some (seen_of (completed_run body))
+run_after_it body = refl

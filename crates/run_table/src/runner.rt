@@ -1,5 +1,6 @@
 ghost use Rattle.std.specs.Prelude.{◌≡◌, Ok, None, Some, option_map, false};
 ghost use Rattle.wf_value.specs.Gives.{Gives};
+ghost use Rattle.table_model.specs.Step.{reply_through};
 ghost use Rattle.table_model.specs.TableState.{holds_lease, holds_this};
 
 use run_plan::{Claim, ClaimReply, Done, LastCommand, Number, RunnerName};
@@ -27,7 +28,7 @@ impl Model for Runner {
 }
 
 impl Runner {
-    ghost use Rattle.table_model.specs.Step.{claiming_runner, released, reporting_runner};
+    ghost use Rattle.table_model.specs.Step.{claiming_runner, released, reporting_runner, runner_through};
 
     /// The record of a runner after its claim.
     pub(crate) fn claiming(
@@ -70,6 +71,16 @@ impl Runner {
         })
     }
 
+    /// Forgets the lease that is kept as its last reply, if its run is forgotten: the runs with ids through this one are.
+    pub(crate) fn forget_lease(&mut self, through: u32)
+        ensures { self.new ≡ runner_through through self.old }
+    {
+        match &mut self.last {
+            LastCommand::Claim(_, reply) => forget_lease_in(reply, through),
+            LastCommand::Done(_) => {}
+        }
+    }
+
     fn holds_this(&self, lease: Number) -> bool
         ensures { result ≡ holds_this lease (Some self.now) }
     {
@@ -88,6 +99,19 @@ impl TryCopy for Runner {
             last: self.last.copy(alloc)?,
             holds: self.holds,
         })
+    }
+}
+
+/// A lease of a run that is forgotten is no longer the reply.
+fn forget_lease_in(reply: &mut ClaimReply, through: u32)
+    ensures { reply.new ≡ reply_through through reply.old }
+{
+    let is_over = match reply {
+        ClaimReply::Nothing => false,
+        ClaimReply::Lease(kept) => kept.lease_reply.run.get() <= through,
+    };
+    if is_over {
+        *reply = ClaimReply::Nothing;
     }
 }
 

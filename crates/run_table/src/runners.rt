@@ -1,10 +1,11 @@
-ghost use Rattle.std.specs.Prelude.{◌≡◌, ◌<◌, ◌≤◌, ◌*◌, [], is_some, length, option_and_then, option_map, slice_get, slice_set, Ok, OnErr};
+ghost use Rattle.std.specs.Prelude.{◌≡◌, ◌<◌, ◌≤◌, ◌*◌, [], is_some, length, map, option_and_then, option_map, slice_get, slice_set, Ok, OnErr};
 ghost use Rattle.std.specs.Option.{option_map_or};
 ghost use Rattle.std.specs.Prelude.{sum_by, true};
 ghost use Rattle.wf_value.specs.Gives.{Gives};
 ghost use Rattle.run_table.specs.inner.IndexNamed.{index_named};
 ghost use Rattle.run_table.specs.inner.RunnerSizes.{max_runner_size, runner_size};
-ghost use Rattle.table_model.specs.TableState.{is_below, is_named, kept_named, names_rise, runner_named, with_runner};
+ghost use Rattle.table_model.specs.Step.{runner_through};
+ghost use Rattle.table_model.specs.TableState.{is_below, is_named, kept_named, names_rise, runner_named, with_runner, without_runner};
 
 use crate::runner::Runner;
 use crate::runner_size::all_sizes;
@@ -96,6 +97,25 @@ impl Runners {
         Ok(())
     }
 
+    /// Removes the runner with this name, given its index.
+    pub(crate) fn remove(&mut self, index: usize, name: &RunnerName)
+        requires index { index ≡ index_named self.old name.now }
+        requires known { is_some (runner_named self.old name.now) ≡ true }
+        ensures { self.new ≡ without_runner self.old name.now }
+    {
+        let size = u128::from(self.size_at(index, name));
+        take_out(&mut self.runners, index, name);
+        self.text -= size;
+    }
+
+    /// Forgets the leases that are kept as last replies, of the runs with ids through this one, which are forgotten.
+    pub(crate) fn forget_leases(&mut self, through: u32)
+        ensures { self.new ≡ map (runner_through through) self.old }
+    {
+        forget_leases_of(&mut self.runners, through);
+        self.text = all_sizes(&self.runners);
+    }
+
     /// The size of the runner with this name, given its index; 0 if there is none.
     fn size_at(&self, index: usize, name: &RunnerName) -> u64
         requires { index ≡ index_named self.now name.now }
@@ -154,6 +174,26 @@ fn replace(runners: &mut Vec<Runner>, index: usize, runner: Runner)
     ensures { runners.new.items ≡ slice_set runners.old.items index runner }
 {
     runners[index] = runner;
+}
+
+/// Removes the runner with a name, given its index.
+fn take_out(runners: &mut Vec<Runner>, index: usize, name: &RunnerName)
+    requires rise { names_rise runners.old.items ≡ true }
+    requires index { index ≡ index_named runners.old.items name.now }
+    requires known { is_some (runner_named runners.old.items name.now) ≡ true }
+    ensures { runners.new.items ≡ without_runner runners.old.items name.now }
+{
+    runners.remove(index);
+}
+
+/// Forgets the leases of forgotten runs that are kept as last replies.
+fn forget_leases_of(runners: &mut Vec<Runner>, through: u32)
+    ensures { runners.new.items ≡ map (runner_through through) runners.old.items }
+{
+    for i in 0..runners.len() {
+        let runner = &mut runners[i];
+        runner.forget_lease(through);
+    }
 }
 
 fn put_in(runners: &mut Vec<Runner>, index: usize, runner: Runner) -> Result<(), Refusal>

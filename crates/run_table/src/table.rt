@@ -5,12 +5,13 @@ ghost use Rattle.run_table.specs.inner.RunnerSizes.{max_runner_size, runner_size
 ghost use Rattle.table_model.specs.Sound.{IsSound};
 ghost use Rattle.run_table.specs.Storable.{IsStorable};
 ghost use Rattle.table_model.specs.Step.{read_only_reply, empty, is_allocation_free, seen, step};
-ghost use Rattle.table_model.specs.TableState.{names_rise};
+ghost use Rattle.table_model.specs.TableState.{index_of, names_rise};
 
 use crate::runner::Runner;
 use crate::runners::Runners;
 use crate::table_data::TableData;
 use crate::view::RunView;
+use forgotten_runs::ForgottenRuns;
 use run_plan::{Command, Number, Prepared, Reply};
 use std::alloc::Global;
 use std::marker::Model;
@@ -48,15 +49,21 @@ impl Table {
         }
     }
 
-    /// The table with these runs and runners, which are sound.
-    pub fn of_sound(last_lease: u32, runs: Runs, runners: Vec<Runner>) -> Self
-        requires { IsSound (record { last_lease = last_lease; runs = runs; runners = runners.items }) }
-        ensures { result ≡ record { last_lease = last_lease; runs = runs; runners = runners.items } }
+    /// The table with these forgotten runs, runs and runners, which are sound.
+    pub fn of_sound(
+        last_lease: u32,
+        forgotten: ForgottenRuns,
+        runs: Runs,
+        runners: Vec<Runner>,
+    ) -> Self
+        requires { IsSound (record { last_lease = last_lease; forgotten = forgotten; runs = runs; runners = runners.items }) }
+        ensures { result ≡ record { last_lease = last_lease; forgotten = forgotten; runs = runs; runners = runners.items } }
     {
         let runners = Runners::of_rising(runners);
         Table {
             table_data: TableData {
                 last_lease,
+                forgotten,
                 runs,
                 runners,
             },
@@ -73,21 +80,25 @@ impl Table {
     /// Promise (The table): What is answered from the table as it is, without a text, is answered memory or not: every refusal, a known
     ///   delivery, a repeated command whose reply is no lease, a beat, a cancel of a stopping run, a re-run that names the present attempt
     /// By: `run_table::Table::step`, `answers`
+    /// Promise (The table): So is a `forget` that finds no run to forget
+    /// By: `run_table::Table::step`, `answers` (`forget_answer`)
     /// Promise (The table): A leg is claimed exactly by its labels in its own context, and a failure is passed over exactly where the leg's flag
     ///   is set there. `needs.ID.result` has a value exactly where the leg's job needs ID directly and that job has a result
     /// By: `run_table::Table::step`, `step` (`context_at`)
     /// Promise (The table): A job opens only once all its needs are finished, and then exactly where its condition holds for the results of all
     ///   ancestors
     /// By: `run_table::Table::step`, `step` (`rule_at`, `decided`, `may_run`)
+    /// Promise (The table): `forget RUN` forgets the first runs that have completed, as many as follow one another and have ids up to RUN, and is
+    ///   not refused; `discharge RUNNER` forgets a runner that holds no lease
+    /// By: `run_table::Table::step`, `step` (`forgot`, `forgettable`, `without`, `discharged`)
     /// Promise (The table): A failure that is not passed over stops the other legs of its job exactly where the job fails fast; no other end of
     ///   a leg does. A lost runner's leg counts the same
     /// By: `run_table::Table::step`, `step` (`after_end`, `lost`, `outcome_of_loss`, `released`)
     /// Promise (The table): A cancelled run: the stop flag is set and the legs of jobs whose conditions are then false are stopped; a waiting
     ///   run ends with all its jobs cancelled
     /// By: `run_table::Table::step`, `step` (`cancelled`, `stopped_run`)
-    /// Promise (The table): No lease is given twice, and a lease has one holder. This is said of one step, and of the table after any commands;
-    ///   no law says it over replies, as one does of deliveries
-    /// By: `run_table::Table::step`; `table_laws::laws::steps_keep_tables_sound`
+    /// Promise (The table): No lease is given twice, and a lease has one holder. This is said of one step, and of the table after any commands
+    /// By: `run_table::Table::step`; `table_laws::laws::{steps_keep_tables_sound, leases_go_on}`
     /// Promise (The table): A fetched body is the admitted bytes, which are UTF-8
     /// By: `run_table::Table::step`, `step` (`fetch_answer`); `run_plan::Prepared::body_text`
     /// Refusal (Sessions and programs): a command of either, by `run_table::Table::step`
@@ -173,7 +184,32 @@ impl Table {
         self.table_data.last_lease()
     }
 
-    /// The runs, in the order of their ids. It takes no memory.
+    /// What is kept of the forgotten runs. It takes no memory.
+    /// Promise (The table): A table shows which runs it has forgotten, the counts of their workflows and the deliveries that it keeps
+    /// By: `run_table::Table::forgotten`; `forgotten_runs::ForgottenRuns::{through, counts, deliveries}`
+    pub fn forgotten(&self) -> &ForgottenRuns
+        ensures forgotten { result.now ≡ self.now.forgotten }
+        ensures sound { IsSound self.now }
+    {
+        &self.table_data.forgotten
+    }
+
+    /// The last id that is forgotten, and with it all before; 0 if none is. It takes no memory.
+    pub fn through(&self) -> u32
+        ensures through { result ≡ self.now.forgotten.through }
+        ensures sound { IsSound self.now }
+    {
+        self.table_data.forgotten.through()
+    }
+
+    /// The index of the run with an id among the runs that are not forgotten. It takes no memory.
+    pub fn index_of(&self, id: Number) -> usize
+        ensures { result ≡ index_of self.now id }
+    {
+        self.table_data.index_of(id)
+    }
+
+    /// The runs that are not forgotten, in the order of their ids. It takes no memory.
     #[tactic(auto, using(crate::proofs::Storable::storable))]
     pub fn runs(&self) -> &[Run]
         ensures runs { result.now ≡ self.now.runs }

@@ -1,7 +1,6 @@
 //! The contents of a table, and a step of it. The modules below carry out the commands.
 
-ghost use Rattle.std.specs.Prelude.{◌≡◌, ◌<◌, ◌+◌, ◌-◌, true, false, Ok, IfOk, OnErr, IsOk};
-ghost use Rattle.definitions.specs.Limits.{max_runs};
+ghost use Rattle.std.specs.Prelude.{◌≡◌, true, false, Ok, IfOk, OnErr, IsOk};
 ghost use Rattle.wf_value.specs.Gives.{Gives};
 ghost use Rattle.run_plan.specs.ReplyText.{carries_text};
 ghost use Rattle.table_model.specs.inner.Claims.{is_claim};
@@ -12,7 +11,10 @@ ghost use Rattle.table_model.specs.TableState.{names_rise};
 mod admissions;
 mod cancellations;
 mod claims;
+mod discharges;
+mod forgetting;
 mod held;
+mod ids;
 mod losses;
 mod reads;
 mod reports;
@@ -20,17 +22,19 @@ mod reruns;
 
 use crate::runner::Runner;
 use crate::runners::Runners;
-use run_plan::{Command, Number, Reply};
+use forgotten_runs::ForgottenRuns;
+use run_plan::{Command, Reply};
 use std::alloc::Global;
 use std::marker::Model;
 use table_model::Run;
 use table_runs::runs::Runs;
 use wf_value::{Code, Refusal, TryCopy};
 
-/// The contents of a table: the last lease granted, the runs and the runners.
+/// The contents of a table: the last lease granted, what is kept of the forgotten runs, the other runs and the runners.
 #[derive(Drop)]
 pub struct TableData {
     pub(crate) last_lease: u32,
+    pub(crate) forgotten: ForgottenRuns,
     pub(crate) runs: Runs,
     pub(crate) runners: Runners,
 }
@@ -40,7 +44,7 @@ impl Model for TableData {
 
     ghost Value = { TableState };
 
-    ghost view = { λ t. record { last_lease = t.last_lease; runs = t.runs; runners = t.runners } };
+    ghost view = { λ t. record { last_lease = t.last_lease; forgotten = t.forgotten; runs = t.runs; runners = t.runners } };
 }
 
 impl TableData {
@@ -50,6 +54,7 @@ impl TableData {
     {
         TableData {
             last_lease: 0,
+            forgotten: ForgottenRuns::none(alloc),
             runs: Runs::new(alloc),
             runners: Runners::new(alloc),
         }
@@ -101,6 +106,8 @@ impl TableData {
             Command::Look(id) => self.show(alloc, *id),
             Command::Fetch(id) => self.fetch(*id),
             Command::Rerun(requested) => self.rerun(alloc, requested),
+            Command::Forget(id) => self.forget(alloc, *id),
+            Command::Discharge(runner) => Ok(self.discharge(runner)),
         }
     }
 
@@ -147,6 +154,7 @@ impl TryCopy for TableData {
     fn copy(&self, alloc: Global) -> Result<Self, Refusal> {
         Ok(TableData {
             last_lease: self.last_lease,
+            forgotten: self.forgotten.copy(alloc)?,
             runs: self.runs.copy(alloc)?,
             runners: self.runners.copy(alloc)?,
         })
@@ -166,19 +174,4 @@ fn with_copy(alloc: Global, reply: Reply) -> Result<(Reply, Reply), Refusal>
 {
     let copy = reply.copy(alloc)?;
     Ok((reply, copy))
-}
-
-/// The id of the run at an index.
-pub(crate) fn id_of(index: usize) -> Number
-    requires { index < max_runs }
-    ensures { result ≡ index + 1 }
-{
-    Number::new(index as u32 + 1)
-}
-
-/// The index of the run with an id.
-fn index_of(id: Number) -> usize
-    ensures { result ≡ id - 1 }
-{
-    id.get() as usize - 1
 }

@@ -8,7 +8,6 @@ use std::alloc::{AllocError, Global};
 use std::fmt::Write;
 use std::marker::Model;
 use table_model::Run;
-use table_runs::runs::Runs;
 use wf_value::{Chars, Refusal};
 
 /// The room that the text of a view takes at first: as much as most runs of one job need.
@@ -29,6 +28,13 @@ impl<'a> Model for RunView<'a> {
 }
 
 impl<'a> RunView<'a> {
+    /// The view of a run.
+    pub fn of(run: &'a Run) -> Self
+        ensures { result ≡ seen_of run.now }
+    {
+        RunView { run }
+    }
+
     pub fn id(&self) -> Number
         ensures { result ≡ self.now.id }
     {
@@ -76,13 +82,4 @@ fn number_text(alloc: Global, number: u32, attempt: u32) -> Result<String, Alloc
     } else {
         format!(in alloc; "{number}.{attempt}")
     }
-}
-
-/// The view of the run with this id. It takes no memory.
-pub fn look(runs: &Runs, id: Number) -> Option<RunView<'_>>
-    ensures { result ≡ seen_of runs.now id }
-{
-    let index = id.get() as usize - 1;
-    let run = runs.as_slice().get(index)?;
-    Some(RunView { run })
 }

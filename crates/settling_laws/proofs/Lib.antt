@@ -1,9 +1,14 @@
 pub mod AddedRun
 pub mod ArrivalKeeps
 pub mod Arrives
+pub mod Dropped
 pub mod EachRule
 pub mod Firsts
+pub mod ForgetKeepsSound
+pub mod ForgottenMore
+pub mod Forgot
 pub mod GroupStays
+pub mod HaveEnded
 pub mod HolderPlaces
 pub mod HoldersFade
 pub mod HoldersKeep
@@ -11,6 +16,7 @@ pub mod KeptBack
 pub mod LivePlaces
 pub mod Lowered
 pub mod Meant
+pub mod MovedHolders
 pub mod NoRoomMade
 pub mod OneEach
 pub mod OneEachRules
@@ -18,8 +24,10 @@ pub mod OwnRun
 pub mod PlacedLegs
 pub mod QuietRules
 pub mod Rests
+pub mod RestsDropped
 pub mod Resumed
 pub mod RuleKeeps
+pub mod RunnersThrough
 pub mod SettlingKeeps
 pub mod SoundRuns
 pub mod StopsLower

@@ -1,9 +1,8 @@
 -- What is answered from the table as it is.
-use Rattle.std.specs.Prelude.{◌≡◌, ◌-◌, ◌+◌, ℕ, ◌&&◌, Bool, true, false, not, nat_eq, nat_le, length, is_some, Option, Some, None, option_map, if◌then◌else◌, refl}
+use Rattle.std.specs.Prelude.{◌≡◌, ◌+◌, ℕ, ◌&&◌, Bool, true, false, not, nat_eq, is_some, Option, Some, None, option_map, if◌then◌else◌, refl}
 use Rattle.std.proofs.Common.{sym, ap, subst, ◌∙◌, inl, inr, arith}
 use Rattle.std.proofs.lemmas.Bool.Decides.{nat_tests}
 use Rattle.std.proofs.lemmas.Option.{same_Some}
-use Rattle.std.specs.List.{position}
 use Rattle.std.specs.Option.{option_or, option_map_or}
 use Rattle.wf_value.specs.declared.code.Code.{Code}
 use Rattle.wf_value.specs.declared.code.Code.TheVariants.{LeaseNotHeld, NoRunner}
@@ -22,16 +21,16 @@ use Rattle.run_plan.specs.declared.last_command.LastCommand.TheVariants as last
 use Rattle.run_plan.specs.declared.reply.Reply.{Reply}
 use Rattle.run_plan.specs.declared.reply.Reply.TheVariants as reply
 use Rattle.definitions.specs.SmallText.{Admitted}
-use Rattle.definitions.specs.Limits.{max_runs}
 use Rattle.wf_value.specs.declared.code.Code.TheVariants as code
-use Rattle.table_model.specs.Runs.{is_delivered_as, run_at, RunState}
+use Rattle.table_model.specs.Runs.{RunState}
 use Rattle.table_model.specs.declared.phases.RunPhase.{RunPhase}
 use Rattle.table_model.specs.declared.phases.RunPhase.TheVariants as phase
 use Rattle.table_model.specs.declared.sites.LegSite.{LegSite}
 use Rattle.table_model.specs.Fitting.{first_fit, is_lease_stopping}
 use Rattle.table_model.specs.TableState.{answer_by_number, holds_lease, holds_this, number_refusal, runner_named}
 use Rattle.table_model.specs.Step.{admitting, admission_answer, answer_of_attempt, answer_of_next, answer_of_run, beat_answer, cancel_answer, cancelling, claim_answer, claiming, fetch_answer, is_allocation_free, lease_answer, leasing, look_answer, losing, read_only_reply, refused, released, report_answer, reporting, rerun_answer, rerunning, serving_nothing, stepped, unchanged}
-use Rattle.table_model.specs.TableState.{RunnerState, Step, TableState}
+use Rattle.table_model.specs.Step.{discharge_answer, discharging, forget_answer, forgettable, forgetting, is_full}
+use Rattle.table_model.specs.TableState.{RunnerState, Step, TableState, run_of_delivery, run_with}
 use Rattle.step_laws.specs.Texts.{CarriesText, IsAnsweredAnyway}
 
 -- ---- an answer from the table, or a change of it
@@ -65,6 +64,13 @@ loss_refused : (t : TableState) (o : Option RunnerState) (e : Refusal)
 loss_refused t None e is = ap (λ (y : Reply). Some y) is
 loss_refused t (Some runner) e is = held_refused t runner runner.holds e is
 
+-- a `forget` is not refused
+forgot_told : (t : TableState) (id : ℕ) (b : Bool) (e : Refusal)
+    → (option_map_or (unchanged t) (if b then Some (reply.Forgotten t.forgotten.through) else None) (forgetting t id)).reply
+    ≡ reply.Refused e → ⊥
+forgot_told t id true e is = cc
+forgot_told t id false e is = cc
+
 pub refused_from_table : (t : TableState) (c : Command) (e : Refusal) → (stepped t c).reply ≡ reply.Refused e
     → read_only_reply t c ≡ Some (reply.Refused e)
 refused_from_table t (command.Admit event) e is = from_table (admission_answer t event) t (admitting t event) _ is (λ h. cc)
@@ -77,6 +83,8 @@ refused_from_table t (command.Lost name) e is = loss_refused t (runner_named t.r
 refused_from_table t (command.Fetch id) e is = ap (λ (y : Reply). Some y) is
 refused_from_table t (command.Look id) e is = ap (λ (y : Reply). Some y) is
 refused_from_table t (command.Rerun requested) e is = from_table (rerun_answer t requested) t (rerunning t requested) _ is (λ h. cc)
+refused_from_table t (command.Forget id) e is = absurd (forgot_told t id (nat_eq (forgettable t id) 0) e is)
+refused_from_table t (command.Discharge name) e is = from_table (discharge_answer t name) t (discharging t name) _ is (λ h. cc)
 
 pub numbered_anyway : (t : TableState) (c : Command) (code : Code) → (stepped t c).reply ≡ refused code → IsAnsweredAnyway t c
 numbered_anyway t c code is = free_of (read_only_reply t c) (refused code) refl (refused_from_table t c (Numbered code) is)
@@ -108,13 +116,13 @@ beat_anyway t beat = ap not (beat_of t beat (runner_named t.runners beat.runner)
 
 -- ---- what is known already
 
-pub known_anyway : (t : TableState) (event : Admitted) (i : ℕ) → position (is_delivered_as event.delivery) t.runs ≡ Some i
+pub known_anyway : (t : TableState) (event : Admitted) (run : ℕ) → run_of_delivery t event.delivery ≡ Some run
     → IsAnsweredAnyway t (command.Admit event)
-known_anyway t event i is =
-    ap (λ (p : Option ℕ). is_allocation_free (option_or (option_map (λ (k : ℕ). reply.Created (k + 1)) p)
-    (if nat_le max_runs (length t.runs) then Some (refused code.LastCounter) else None))) is
+known_anyway t event run is =
+    ap (λ (known : Option ℕ). is_allocation_free (option_or (option_map (λ (id : ℕ). reply.Created id) known)
+    (if is_full t then Some (refused code.LastCounter) else None))) is
 
-pub cancel_anyway : (t : TableState) (id : ℕ) (x : RunState) → run_at t.runs (id - 1) ≡ Some x → x.phase ≡ phase.Live → x.stopping ≡ true
+pub cancel_anyway : (t : TableState) (id : ℕ) (x : RunState) → run_with t id ≡ Some x → x.phase ≡ phase.Live → x.stopping ≡ true
     → IsAnsweredAnyway t (command.Cancel id)
 cancel_anyway t id x at live stopping =
     ap (λ (o : Option RunState). is_allocation_free (option_map_or (λ (run : RunState). answer_of_run run.phase run.stopping) o
@@ -122,7 +130,7 @@ cancel_anyway t id x at live stopping =
     ∙ ap (λ (p : RunPhase). is_allocation_free (answer_of_run p x.stopping)) live
     ∙ ap (λ (b : Bool). is_allocation_free (answer_of_run phase.Live b)) stopping
 
-pub rerun_anyway : (t : TableState) (a : Attempt) (x : RunState) → run_at t.runs (a.run - 1) ≡ Some x → x.attempt ≡ a.attempt
+pub rerun_anyway : (t : TableState) (a : Attempt) (x : RunState) → run_with t a.run ≡ Some x → x.attempt ≡ a.attempt
     → IsAnsweredAnyway t (command.Rerun a)
 rerun_anyway t a x at same =
     let present : nat_eq a.attempt x.attempt ≡ true = grind (arith, nat_tests) in
@@ -130,6 +138,11 @@ rerun_anyway t a x at same =
     (Some (refused code.NoRun)))) at
     ∙ ap (λ (b : Bool). is_allocation_free (if b then Some (reply.Again a)
     else (if nat_eq a.attempt (x.attempt + 1) then answer_of_next x else Some (reply.Refused (Turn x.attempt))))) present
+
+pub forget_anyway : (t : TableState) (id : ℕ) → forgettable t id ≡ 0 → IsAnsweredAnyway t (command.Forget id)
+forget_anyway t id none =
+    let found : nat_eq (forgettable t id) 0 ≡ true = ap (λ n. nat_eq n 0) none in
+    ap (λ (b : Bool). is_allocation_free (if b then Some (reply.Forgotten t.forgotten.through) else None)) found
 
 -- ---- a runner's last command again
 
@@ -202,6 +215,8 @@ table_told t (command.Lost name) r is = loss_told t (runner_named t.runners name
 table_told t (command.Fetch id) r is = same_Some (fetch_answer t id) r is
 table_told t (command.Look id) r is = same_Some (look_answer t id) r is
 table_told t (command.Rerun requested) r is = told_by t (rerun_answer t requested) (rerunning t requested) r is
+table_told t (command.Forget id) r is = told_by t (forget_answer t id) (forgetting t id) r is
+table_told t (command.Discharge name) r is = told_by t (discharge_answer t name) (discharging t name) r is
 
 pub anyway_without_text : (t : TableState) (c : Command) → IsAnsweredAnyway t c → CarriesText (stepped t c).reply → ⊥
 anyway_without_text t c free text =

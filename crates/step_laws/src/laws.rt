@@ -1,5 +1,4 @@
-ghost use Rattle.std.specs.Prelude.{◌≡◌, ◌-◌, ℕ, true, Some};
-ghost use Rattle.std.specs.List.{position};
+ghost use Rattle.std.specs.Prelude.{◌≡◌, ℕ, true, Some};
 ghost use Rattle.wf_value.specs.declared.code.Code.{Code};
 ghost use Rattle.wf_value.specs.declared.refusal.Refusal.TheVariants.{Turn};
 ghost use Rattle.definitions.specs.SmallText.{Admitted};
@@ -11,10 +10,10 @@ ghost use Rattle.run_plan.specs.declared.command.Command.{Command};
 ghost use Rattle.run_plan.specs.declared.command.Command.TheVariants as command;
 ghost use Rattle.run_plan.specs.declared.command.Done.{Done};
 ghost use Rattle.run_plan.specs.declared.reply.Reply.TheVariants as reply;
-ghost use Rattle.table_model.specs.Runs.{is_delivered_as, run_at, RunState};
+ghost use Rattle.table_model.specs.Runs.{RunState};
 ghost use Rattle.table_model.specs.declared.phases.RunPhase.TheVariants as phase;
-ghost use Rattle.table_model.specs.TableState.{runner_named, RunnerState, TableState};
-ghost use Rattle.table_model.specs.Step.{refused, stepped};
+ghost use Rattle.table_model.specs.TableState.{run_of_delivery, run_with, runner_named, RunnerState, TableState};
+ghost use Rattle.table_model.specs.Step.{forgettable, refused, stepped};
 ghost use Rattle.step_laws.specs.Texts.{CarriesText, IsAnsweredAnyway};
 
 /// Every refusal is given memory or not, whatever the command is: those with a number alone (40 to 42, 44, 45, 48, 49), and 43 with the
@@ -34,16 +33,17 @@ pub fn beats_need_no_memory()
 
 /// So is an event whose delivery is known.
 pub fn known_deliveries_need_no_memory()
-    ensures { (t : TableState) (event : Admitted) (i : ℕ) → position (is_delivered_as event.delivery) t.runs ≡ Some i
+    ensures { (t : TableState) (event : Admitted) (run : ℕ) → run_of_delivery t event.delivery ≡ Some run
         → IsAnsweredAnyway t (command.Admit event) }
 {}
 
-/// So is a cancel of a run that is stopping already, and a re-run that names the present attempt.
+/// So is a cancel of a run that is stopping already, a re-run that names the present attempt, and a `forget` that finds no run to forget.
 pub fn repeated_requests_need_no_memory()
-    ensures cancel { (t : TableState) (id : ℕ) (x : RunState) → run_at t.runs (id - 1) ≡ Some x → x.phase ≡ phase.Live → x.stopping ≡ true
+    ensures cancel { (t : TableState) (id : ℕ) (x : RunState) → run_with t id ≡ Some x → x.phase ≡ phase.Live → x.stopping ≡ true
         → IsAnsweredAnyway t (command.Cancel id) }
-    ensures rerun { (t : TableState) (a : Attempt) (x : RunState) → run_at t.runs (a.run - 1) ≡ Some x → x.attempt ≡ a.attempt
+    ensures rerun { (t : TableState) (a : Attempt) (x : RunState) → run_with t a.run ≡ Some x → x.attempt ≡ a.attempt
         → IsAnsweredAnyway t (command.Rerun a) }
+    ensures forget { (t : TableState) (id : ℕ) → forgettable t id ≡ 0 → IsAnsweredAnyway t (command.Forget id) }
 {}
 
 /// So is a runner's last command again, unless its reply was a lease.

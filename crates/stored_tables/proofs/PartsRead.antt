@@ -16,12 +16,14 @@ use Rattle.run_plan.specs.declared.planned.PlannedJob.{PlannedJob}
 use Rattle.stored_tables.specs.inner.ByLease.{lease_of_leg}
 use Rattle.stored_tables.specs.inner.ByNumber.{Finds}
 use Rattle.table_model.specs.AsPlanned.{AreAsPlanned, HasRoom}
+use Rattle.table_model.specs.Forgotten.{ForgottenRuns}
 use Rattle.table_model.specs.Fitting.{has_lease}
 use Rattle.table_model.specs.Runs.{leg_at, plan_at, run_at, LegState, RunState}
 use Rattle.table_model.specs.declared.sites.LegSite.{LegSite}
 use Rattle.table_model.specs.Sound.{IdsFollow, IsOfALeg, KeptIsOfALeg, KeptLeasesAreOfLegs}
 use Rattle.table_model.specs.Step.{kept_lease, lease_at}
-use Rattle.stored_tables.specs.Stored.{RunnerParts, site_in_runs, stored_site}
+use Rattle.stored_tables.specs.Stored.{RunnerParts, stored_site}
+use Rattle.stored_tables.specs.inner.StoredSites.{site_in_runs}
 use Rattle.stored_tables.specs.TableOf.{AreRunnersAs, IsLastAs, IsLeaseAs, IsReplyAs, IsRunnerAs}
 use Rattle.table_model.specs.TableState.{RunnerState}
 use Rattle.table_model.specs.LegContext.{id_at, planned_legs}
@@ -67,24 +69,20 @@ leg_planned runs planned p z at =
 -- ---- a lease of which only the number is stored
 
 -- the leg that is found has it
-pub present_lease : (most n attempt : ℕ) (runs : List RunState) (p : LegSite) (kept : KeptLease) → IdsFollow runs → AreAsPlanned runs
-    → 1 ≤ n → n ≤ most → 1 ≤ attempt → lease_of_leg runs p ≡ Some n → Some attempt ≡ option_map (λ (x : RunState). x.attempt) (run_at runs p.run)
+pub present_lease : (most n attempt : ℕ) (runs : List RunState) (p : LegSite) (kept : KeptLease) → AreAsPlanned runs → 1 ≤ n → n ≤ most
+    → 1 ≤ attempt → lease_of_leg runs p ≡ Some n → Some attempt ≡ option_map (λ (x : RunState). x.attempt) (run_at runs p.run)
     → kept_lease runs attempt p n ≡ kept → IsLeaseAs most runs (record { lease = n; place = None }) kept
-present_lease most n attempt runs p kept follow planned low le first has at is =
+present_lease most n attempt runs p kept planned low le first has at is =
     let f = leg_from_had runs p n has in
     let from = from_map (λ (x : RunState). x.attempt) (run_at runs p.run) attempt (sym at) in
     let x = from.value in
-    let run_is : run_at runs p.run ≡ Some x = from.is in
     let now : attempt ≡ x.attempt = sym from.gives in
-    let place : id_at runs p.run - 1 ≡ p.run = omega (arith, id_follows runs follow p.run x run_is) in
     subst (IsLeaseAs most runs (record { lease = n; place = None })) is (record {
       lease = refl;
-      place = now ∙ sym (ap (λ k. option_map_or (λ (y : RunState). y.attempt) (run_at runs k) 0) place
-          ∙ ap (λ o. option_map_or (λ (y : RunState). y.attempt) o 0) run_is);
       is_of_a_leg = record {
         place = p;
         run = x;
-        run_is = run_is;
+        run_is = from.is;
         job_is = refl;
         planned = leg_planned runs planned p f.value f.is;
         tells = refl;
@@ -92,15 +90,16 @@ present_lease most n attempt runs p kept follow planned low le first has at is =
         attempt = (first, omega (arith, now));
         has_it = (λ e. (f.value, f.is, f.gives));
       };
+      place = now;
     })
 
 -- and if none is found, there is none
-pub no_present : (most n : ℕ) (runs : List RunState) → IdsFollow runs → (o : Option LegSite) → Finds (lease_of_leg runs) n o → o ≡ None
-    → (kept : KeptLease) → IsLeaseAs most runs (record { lease = n; place = None }) kept → ⊥
-no_present most n runs follow o finds is kept lease =
+pub no_present : (most n : ℕ) (runs : List RunState) (o : Option LegSite) → Finds (lease_of_leg runs) n o → o ≡ None → (kept : KeptLease)
+    → IsLeaseAs most runs (record { lease = n; place = None }) kept → ⊥
+no_present most n runs o finds is kept lease =
     let none = subst (Finds (lease_of_leg runs) n) is finds in
     let of = lease.is_of_a_leg in
-    let (x, at, has) = present_has_it most runs follow kept of lease.place in
+    let (x, at, has) = present_has_it most runs kept of lease.place in
     none of.place (had_from_leg runs of.place x at ∙ has ∙ ap Some lease.lease)
 
 -- the run of the leg that is found exists
@@ -121,12 +120,12 @@ pub record MayHave (runs : List RunState) (attempt : ℕ) (p : LegSite) (lease :
   pub begun : (1 ≤ attempt) × (attempt ≤ run.attempt)
   pub has_it : attempt ≡ run.attempt → (x : LegState) × (leg_at runs p ≡ Some x) × (x.lease ≡ Some lease)
 
-pub may_have : (most : ℕ) (runs : List RunState) → IdsFollow runs → (attempt : ℕ) (p : LegSite) (lease : ℕ)
+pub may_have : (most : ℕ) (forgotten : ForgottenRuns) (runs : List RunState) → IdsFollow forgotten runs → (attempt : ℕ) (p : LegSite) (lease : ℕ)
     → IsOfALeg most runs (kept_lease runs attempt p lease) → MayHave runs attempt p lease
-may_have most runs follow attempt p lease of =
+may_have most forgotten runs follow attempt p lease of =
     let kept = kept_lease runs attempt p lease in
-    let run : id_at runs p.run ≡ of.place.run + 1 = run_told most runs follow kept of in
-    let here = id_there runs follow p.run (omega (arith, run)) in
+    let run : id_at runs p.run ≡ forgotten.through + of.place.run + 1 = run_told most forgotten runs follow kept of in
+    let here = id_there forgotten runs follow p.run (omega (arith, run)) in
     let same : of.place ≡ p = same_place of.place p (omega (arith, run, here)) (sym of.job_is) (sym (leg_told most runs kept of)) in
     subst (λ (q : LegSite). MayHave runs attempt q lease) same (record {
       run = of.run;
@@ -165,11 +164,11 @@ has_so : (runs : List RunState) (p : LegSite) (n : ℕ) (x : LegState) → leg_a
 has_so runs p n x is has =
     ap (λ o. option_map_or (has_lease n) o false) is ∙ ap (λ o. option_map_or (λ held. nat_eq held n) o false) has ∙ eq-eqb n n refl
 
-pub present_decides : (most : ℕ) (runs : List RunState) → IdsFollow runs → (attempt : ℕ) (p : LegSite) (lease present : ℕ) (b : Bool)
+pub present_decides : (most : ℕ) (forgotten : ForgottenRuns) (runs : List RunState) → IdsFollow forgotten runs → (attempt : ℕ) (p : LegSite) (lease present : ℕ) (b : Bool)
     → Some present ≡ option_map (λ (x : RunState). x.attempt) (run_at runs p.run) → p.leg < planned_legs runs p.run p.job → 1 ≤ lease
     → lease ≤ most → 1 ≤ attempt → attempt ≡ present → b ≡ option_map_or (has_lease lease) (leg_at runs p) false
     → Decides b (IsOfALeg most runs (kept_lease runs attempt p lease))
-present_decides most runs follow attempt p lease present b at planned low le first now is =
+present_decides most forgotten runs follow attempt p lease present b at planned low le first now is =
     let from = from_map (λ (x : RunState). x.attempt) (run_at runs p.run) present (sym at) in
     let same : attempt ≡ from.value.attempt = now ∙ sym from.gives in (
       (λ e. is_of_a_leg most runs attempt p lease low le (record {
@@ -180,52 +179,60 @@ present_decides most runs follow attempt p lease present b at planned low le fir
         has_it = (λ _. has_by runs p lease (leg_at runs p) refl (sym is ∙ e));
       })),
       (λ of.
-          let may = may_have most runs follow attempt p lease of in
+          let may = may_have most forgotten runs follow attempt p lease of in
           let one : from.value ≡ may.run = same_Some from.value may.run (sym from.is ∙ may.run_is) in
           let (z, has_leg, has) = may.has_it (same ∙ ap (λ (y : RunState). y.attempt) one) in
           is ∙ has_so runs p lease z has_leg has),
     )
 
-pub run_within : (most : ℕ) (runs : List RunState) → IdsFollow runs → (attempt : ℕ) (p : LegSite) (lease : ℕ)
+pub run_within : (most : ℕ) (forgotten : ForgottenRuns) (runs : List RunState) → IdsFollow forgotten runs → (attempt : ℕ) (p : LegSite) (lease : ℕ)
     → IsOfALeg most runs (kept_lease runs attempt p lease) → p.run < length runs
-run_within most runs follow attempt p lease of =
-    let may = may_have most runs follow attempt p lease of in
+run_within most forgotten runs follow attempt p lease of =
+    let may = may_have most forgotten runs follow attempt p lease of in
     slice_get_within runs p.run may.run may.run_is
 
-pub given_lease : (most n : ℕ) (runs : List RunState) → IdsFollow runs → (place : StoredSite) (kept : KeptLease) → 1 ≤ place.run
-    → IsOfALeg most runs (kept_lease runs place.attempt (site_in_runs place) n)
-    → kept_lease runs place.attempt (site_in_runs place) n ≡ kept → IsLeaseAs most runs (record { lease = n; place = Some place }) kept
-given_lease most n runs follow place kept low of is =
-    let may = may_have most runs follow place.attempt (site_in_runs place) n of in
-    let run : id_at runs (place.run - 1) ≡ place.run =
-    omega (arith, low, id_follows runs follow (place.run - 1) may.run may.run_is) in
+pub given_lease : (most n : ℕ) (forgotten : ForgottenRuns) (runs : List RunState) → IdsFollow forgotten runs → (place : StoredSite) (kept : KeptLease) → forgotten.through < place.run
+    → IsOfALeg most runs (kept_lease runs place.attempt (site_in_runs forgotten.through place) n)
+    → kept_lease runs place.attempt (site_in_runs forgotten.through place) n ≡ kept → IsLeaseAs most runs (record { lease = n; place = Some place }) kept
+given_lease most n forgotten runs follow place kept low of is =
+    let may = may_have most forgotten runs follow place.attempt (site_in_runs forgotten.through place) n of in
+    let index : ℕ = place.run - forgotten.through - 1 in
+    let run : id_at runs index ≡ place.run = omega (arith, low, id_follows forgotten runs follow index may.run may.run_is) in
     subst (IsLeaseAs most runs (record { lease = n; place = Some place })) is (record {
       lease = refl;
-      place = (λ i. record { run = run i; attempt = place.attempt; job = place.job; leg = place.leg });
       is_of_a_leg = of;
+      place = (λ i. record { run = run i; attempt = place.attempt; job = place.job; leg = place.leg });
     })
 
 -- it is the only one of these parts
-kept_is : (most n : ℕ) (runs : List RunState) → IdsFollow runs → (place : StoredSite) (kept : KeptLease)
-    → IsLeaseAs most runs (record { lease = n; place = Some place }) kept → kept ≡ kept_lease runs place.attempt (site_in_runs place) n
-kept_is most n runs follow place kept is =
+kept_is : (most n : ℕ) (forgotten : ForgottenRuns) (runs : List RunState) → IdsFollow forgotten runs → (place : StoredSite) (kept : KeptLease)
+    → IsLeaseAs most runs (record { lease = n; place = Some place }) kept → kept ≡ kept_lease runs place.attempt (site_in_runs forgotten.through place) n
+kept_is most n forgotten runs follow place kept is =
     let of = is.is_of_a_leg in
     let stored : stored_site kept ≡ place = is.place in
     let run : kept.lease_reply.run ≡ place.run = ap (λ (s : StoredSite). s.run) stored in
     let attempt : kept.attempt ≡ place.attempt = ap (λ (s : StoredSite). s.attempt) stored in
     let job : kept.job ≡ place.job = ap (λ (s : StoredSite). s.job) stored in
     let leg : kept.lease_reply.leg ≡ place.leg = ap (λ (s : StoredSite). s.leg) stored in
-    let its = run_told most runs follow kept of in
-    let same : of.place ≡ site_in_runs place = same_place of.place (site_in_runs place) (omega (arith, run, its)) (sym of.job_is ∙ job)
+    let its = run_told most forgotten runs follow kept of in
+    let same : of.place ≡ site_in_runs forgotten.through place = same_place of.place (site_in_runs forgotten.through place) (omega (arith, run, its)) (sym of.job_is ∙ job)
     (sym (leg_told most runs kept of) ∙ leg) in
-    let lease_reply : kept.lease_reply ≡ lease_at runs (site_in_runs place) n =
-    of.tells ∙ ap (λ p. lease_at runs p kept.lease_reply.lease) same ∙ ap (lease_at runs (site_in_runs place)) is.lease in
+    let lease_reply : kept.lease_reply ≡ lease_at runs (site_in_runs forgotten.through place) n =
+    of.tells ∙ ap (λ p. lease_at runs p kept.lease_reply.lease) same ∙ ap (lease_at runs (site_in_runs forgotten.through place)) is.lease in
     λ i. record { lease_reply = lease_reply i; attempt = attempt i; job = job i }
 
-pub no_given : (most n : ℕ) (runs : List RunState) → IdsFollow runs → (place : StoredSite)
-    → (IsOfALeg most runs (kept_lease runs place.attempt (site_in_runs place) n) → ⊥) → (kept : KeptLease)
+pub no_given : (most n : ℕ) (forgotten : ForgottenRuns) (runs : List RunState) → IdsFollow forgotten runs → (place : StoredSite)
+    → (IsOfALeg most runs (kept_lease runs place.attempt (site_in_runs forgotten.through place) n) → ⊥) → (kept : KeptLease)
     → IsLeaseAs most runs (record { lease = n; place = Some place }) kept → ⊥
-no_given most n runs follow place none kept is = none (subst (IsOfALeg most runs) (kept_is most n runs follow place kept is) is.is_of_a_leg)
+no_given most n forgotten runs follow place none kept is = none (subst (IsOfALeg most runs) (kept_is most n forgotten runs follow place kept is) is.is_of_a_leg)
+
+-- the run of a kept lease is not forgotten
+pub none_forgotten : (most n : ℕ) (forgotten : ForgottenRuns) (runs : List RunState) → IdsFollow forgotten runs → (place : StoredSite)
+    → place.run ≤ forgotten.through → (kept : KeptLease) → IsLeaseAs most runs (record { lease = n; place = Some place }) kept → ⊥
+none_forgotten most n forgotten runs follow place past kept is =
+    let run : kept.lease_reply.run ≡ place.run = ap (λ (s : StoredSite). s.run) is.place in
+    let its = run_told most forgotten runs follow kept is.is_of_a_leg in
+    absurd (omega (arith, past, run, its))
 
 -- ---- replies
 

@@ -1,6 +1,6 @@
--- A table whose ids and numbers follow from the places of its runs is sound exactly if each of its runs and runners is sound,
+-- A table whose ids and numbers follow from the places of its runs after the forgotten ones is sound exactly if each of its runs and runners is sound,
 -- no rule applies, and no delivery made two runs.
-use Rattle.std.specs.Prelude.{◌≡◌, ℕ, ◌≤◌, List, true, false, Option, Some, None, option_and_then, slice_get, refl}
+use Rattle.std.specs.Prelude.{◌≡◌, ℕ, ◌+◌, ◌≤◌, ◌++◌, List, length, true, false, Option, Some, None, option_and_then, slice_get, refl}
 use Rattle.std.specs.Option.{option_map_or}
 use Rattle.std.proofs.Common.{ap, sym, ◌∙◌}
 use Rattle.std.proofs.lemmas.Option.{same_Some}
@@ -12,7 +12,9 @@ use Rattle.table_model.specs.Fitting.{is_at_work}
 use Rattle.table_model.specs.Runs.{leg_at, LegState, RunState}
 use Rattle.table_model.specs.declared.sites.LegSite.{LegSite}
 use Rattle.table_model.specs.Settling.{first_site}
-use Rattle.table_model.specs.Sound.{DeliveriesDiffer, IdsFollow, IsAtWork, IsHeld, IsSound, KeptLeasesAreOfLegs, NumbersFollow}
+use Rattle.definitions.specs.Limits.{last_number}
+use Rattle.table_model.specs.Forgotten.{ForgottenRuns, deliveries_of}
+use Rattle.table_model.specs.Sound.{DeliveriesDiffer, ForgottenFit, IdsFollow, IsAtWork, IsHeld, IsSound, KeptLeasesAreOfLegs, NumbersFollow}
 use Rattle.table_model.specs.AsPlanned.{AreAsPlanned}
 use Rattle.table_model.specs.TableState.{RunnerState, TableState, names_rise}
 use Rattle.stored_tables.specs.declared.sound.leases.Leases.{Leases}
@@ -22,8 +24,8 @@ use Rattle.stored_tables.proofs.ByNumberRead.{found_has, found_is, found_some, t
 use Rattle.table_model.proofs.Optional.{from_and_then}
 use Rattle.table_model.proofs.RunFits.{job_in_run}
 
-abbrev pub table_with : Leases → List RunState → List RunnerState → TableState
-table_with leases runs runners = record { last_lease = leases.last; runs = runs; runners = runners }
+abbrev pub table_with : Leases → ForgottenRuns → List RunState → List RunnerState → TableState
+table_with leases forgotten runs runners = record { last_lease = leases.last; forgotten = forgotten; runs = runs; runners = runners }
 
 holds_at : (runners : List RunnerState) (k n : ℕ) (x : RunnerState) → slice_get runners k ≡ Some x → x.holds ≡ Some n
     → lease_of_runner runners k ≡ Some n
@@ -33,12 +35,12 @@ lease_at_leg : (runs : List RunState) (p : LegSite) (n : ℕ) (x : LegState) →
     → lease_of_leg runs p ≡ Some n
 lease_at_leg runs p n x at e = had_from_leg runs p x at ∙ e
 
-module _ (leases : Leases) (runs : List RunState) (runners : List RunnerState)
+module _ (leases : Leases) (forgotten : ForgottenRuns) (runs : List RunState) (runners : List RunnerState)
     (legs : (n : ℕ) → Finds (lease_of_leg runs) n (leg_of leases n))
     (held : (n : ℕ) → Finds (lease_of_runner runners) n (runner_of leases n)) where
   -- ---- from the table
 
-  module _ (s : IsSound (table_with leases runs runners)) where
+  module _ (s : IsSound (table_with leases forgotten runs runners)) where
     leg_found : (p : LegSite) (x : LegState) (n : ℕ) → leg_at runs p ≡ Some x → x.lease ≡ Some n → leg_of leases n ≡ Some p
     leg_found p x n at e =
         found_is (lease_of_leg runs) n (leg_of leases n) p (legs n) (lease_at_leg runs p n x at e)
@@ -106,11 +108,14 @@ module _ (leases : Leases) (runs : List RunState) (runners : List RunnerState)
         let f = leg_from_had runs p n (found_has (lease_of_leg runs) n (leg_of leases n) p (legs n) is) in
         (p, f.value, f.is, f.gives, sym (ap (λ o. option_map_or (λ (y : LegState). is_at_work y.phase) o false) f.is) ∙ e)
 
-    pub to_sound : AreAsPlanned runs → IdsFollow runs → NumbersFollow runs → names_rise runners ≡ true
-        → KeptLeasesAreOfLegs leases.last runs runners → leases.last ≤ 999999999
-        → HasOneEach runs → first_site runs ≡ None → DeliveriesDiffer runs → IsSound (table_with leases runs runners)
-    to_sound planned ids numbers rise kept last one rests differ = record {
+    pub to_sound : ForgottenFit forgotten → forgotten.through + length runs ≤ last_number → AreAsPlanned runs → IdsFollow forgotten runs
+        → NumbersFollow forgotten runs → names_rise runners ≡ true → KeptLeasesAreOfLegs leases.last runs runners
+        → leases.last ≤ 999999999 → HasOneEach runs → first_site runs ≡ None
+        → DeliveriesDiffer (forgotten.deliveries ++ deliveries_of runs) → IsSound (table_with leases forgotten runs runners)
+    to_sound fit last_id planned ids numbers rise kept last one rests differ = record {
       few_runs = planned.few;
+      last_id_in_range = last_id;
+      forgotten_fit = fit;
       ids_follow = ids;
       numbers_follow = numbers;
       deliveries_differ = differ;

@@ -21,13 +21,14 @@ use Rattle.stored_tables.specs.declared.parts.StoredSite.{StoredSite}
 
 last_is : (most : ℕ) (runs : List RunState) (x : LastCommand) → KeptIsOfALeg most runs x → IsLastAs most runs (stored_last x) x
 last_is most runs (last.Claim claim given.Nothing) of = (refl, tt)
-last_is most runs (last.Claim claim (given.Lease kept)) of = (refl, record { lease = refl; place = refl; is_of_a_leg = of })
+last_is most runs (last.Claim claim (given.Lease kept)) of = (refl, record { lease = refl; is_of_a_leg = of; place = refl })
 last_is most runs (last.Done report) of = refl
 
 pub is_stored : (t : TableState) → IsSound t → IsStoredAs (stored_table t) t
 is_stored t s = record {
   is_sound = s;
   last_lease = refl;
+  forgotten = refl;
   runs = refl;
   runners = record {
     as_many = sym (length-map t.runners stored_runner);
@@ -55,10 +56,10 @@ HasPlace (stored.Done report) = Unit {0}
 abbrev pub HavePlaces : List RunnerParts → Type 0
 HavePlaces runners = (k : ℕ) (part : RunnerParts) → slice_get runners k ≡ Some part → HasPlace part.last
 
-placed_again : (runs : List RunState) (kept : KeptLease) (o : Option StoredSite) → is_some o ≡ true → IsPlacedAs runs o kept
+placed_again : (run : RunState) (kept : KeptLease) (o : Option StoredSite) → is_some o ≡ true → IsPlacedAs run o kept
     → Some (stored_site kept) ≡ o
-placed_again runs kept None has is = cc
-placed_again runs kept (Some place) has is = ap Some is
+placed_again run kept None has is = cc
+placed_again run kept (Some place) has is = ap Some is
 
 last_again : (most : ℕ) (runs : List RunState) (parts : LastParts) (x : LastCommand) → HasPlace parts → IsLastAs most runs parts x
     → stored_last x ≡ parts
@@ -67,7 +68,7 @@ last_again most runs (stored.Claim claim None) (last.Claim other (given.Lease ke
 last_again most runs (stored.Claim claim (Some parts)) (last.Claim other given.Nothing) has is = absurd is.1
 last_again most runs (stored.Claim claim (Some parts)) (last.Claim other (given.Lease kept)) has is =
     let lease : kept.lease_reply.lease ≡ parts.lease = is.1.lease in
-    let place : Some (stored_site kept) ≡ parts.place = placed_again runs kept parts.place has is.1.place in
+    let place : Some (stored_site kept) ≡ parts.place = placed_again is.1.is_of_a_leg.run kept parts.place has is.1.place in
     let both : stored_lease kept ≡ parts = λ i. record { lease = lease i; place = place i } in
     ap₂ (λ c s. stored.Claim c (Some s)) is.0 both
 last_again most runs (stored.Claim claim parts) (last.Done report) has is = absurd is
@@ -90,4 +91,4 @@ runners_again most runs (part ∷ parts) (x ∷ xs) have are =
 pub stored_again : (parts : TableParts) (t : TableState) → HavePlaces parts.runners → IsStoredAs parts t → stored_table t ≡ parts
 stored_again parts t have is =
     let runners = runners_again t.last_lease t.runs parts.runners t.runners have is.runners in
-    λ i. record { last_lease = is.last_lease i; runs = is.runs i; runners = runners i }
+    λ i. record { last_lease = is.last_lease i; forgotten = is.forgotten i; runs = is.runs i; runners = runners i }

@@ -1,14 +1,13 @@
--- What is stored of a table. Of a run, it is all but its id and its number, which follow from its place. Of a lease that is
--- kept as a reply, it is the number and the site with the attempt. The rest, the job's id and the combination, follows from
--- the runs.
-use Rattle.std.specs.Prelude.{ℕ, ◌-◌, List, map, Option, Some, None}
+-- What is stored of a table. Of the forgotten runs, it is all that the table keeps of them. Of a run, it is all but its id and its number,
+-- which follow from its place and from the forgotten runs. Of a lease that is kept as a reply, it is the number and the site with the attempt.
+-- The rest, the job's id and the combination, follows from the runs.
+use Rattle.std.specs.Prelude.{ℕ, List, map, Option, Some, None}
 use Rattle.run_plan.specs.declared.last_command.ClaimReply.TheVariants as given
 use Rattle.run_plan.specs.declared.last_command.KeptLease.{KeptLease}
 use Rattle.run_plan.specs.declared.last_command.LastCommand.{LastCommand}
 use Rattle.run_plan.specs.declared.last_command.LastCommand.TheVariants as last
+use Rattle.table_model.specs.Forgotten.{ForgottenRuns}
 use Rattle.table_model.specs.Parts.{RunParts, stored_run}
-use Rattle.table_model.specs.Runs.{leg_site}
-use Rattle.table_model.specs.declared.sites.LegSite.{LegSite}
 pub use Rattle.table_model.specs.Runs.{is_new}
 use Rattle.table_model.specs.TableState.{RunnerState, TableState}
 use Rattle.stored_tables.specs.declared.parts.LastParts.{LastParts}
@@ -25,6 +24,7 @@ pub record RunnerParts : Type 0 where
 
 pub record TableParts : Type 0 where
   pub last_lease : ℕ
+  pub forgotten : ForgottenRuns
   pub runs : List RunParts
   pub runners : List RunnerParts
 
@@ -32,10 +32,6 @@ pub record TableParts : Type 0 where
 
 abbrev pub stored_site : KeptLease → StoredSite
 stored_site kept = record { run = kept.lease_reply.run; attempt = kept.attempt; job = kept.job; leg = kept.lease_reply.leg }
-
--- the leg's site in the runs
-abbrev pub site_in_runs : StoredSite → LegSite
-site_in_runs stored = leg_site (stored.run - 1) stored.job stored.leg
 
 abbrev pub stored_lease : KeptLease → StoredLease
 stored_lease kept = record { lease = kept.lease_reply.lease; place = Some (stored_site kept) }
@@ -49,4 +45,9 @@ abbrev pub stored_runner : RunnerState → RunnerParts
 stored_runner r = record { name = r.name; number = r.number; last = stored_last r.last; holds = r.holds }
 
 abbrev pub stored_table : TableState → TableParts
-stored_table t = record { last_lease = t.last_lease; runs = map stored_run t.runs; runners = map stored_runner t.runners }
+stored_table t = record {
+  last_lease = t.last_lease;
+  forgotten = t.forgotten;
+  runs = map stored_run t.runs;
+  runners = map stored_runner t.runners;
+}

@@ -1,13 +1,12 @@
 -- The table of stored parts: the sound table that is stored as these parts, if there is one.
-use Rattle.std.specs.Prelude.{◌≡◌, ℕ, ◌-◌, List, length, map, Option, Some, None, slice_get}
-use Rattle.std.specs.Option.{option_map_or}
+use Rattle.std.specs.Prelude.{◌≡◌, ℕ, List, length, map, Option, Some, None, slice_get}
 use Rattle.run_plan.specs.declared.last_command.ClaimReply.{ClaimReply}
 use Rattle.run_plan.specs.declared.last_command.ClaimReply.TheVariants as given
 use Rattle.run_plan.specs.declared.last_command.KeptLease.{KeptLease}
 use Rattle.run_plan.specs.declared.last_command.LastCommand.{LastCommand}
 use Rattle.run_plan.specs.declared.last_command.LastCommand.TheVariants as last
 use Rattle.table_model.specs.Parts.{stored_run}
-use Rattle.table_model.specs.Runs.{run_at, RunState}
+use Rattle.table_model.specs.Runs.{RunState}
 use Rattle.table_model.specs.Sound.{IsOfALeg, IsSound}
 use Rattle.stored_tables.specs.Stored.{RunnerParts, TableParts, stored_site}
 use Rattle.table_model.specs.TableState.{RunnerState, TableState}
@@ -19,14 +18,14 @@ use Rattle.stored_tables.specs.declared.parts.StoredSite.{StoredSite}
 -- ---- kept leases
 
 -- the lease has the stored site; if none is stored, the lease is of its run's current attempt, so a leg has it
-abbrev pub IsPlacedAs : List RunState → Option StoredSite → KeptLease → Type 0
-IsPlacedAs runs None kept = kept.attempt ≡ option_map_or (λ x. x.attempt) (run_at runs (kept.lease_reply.run - 1)) 0
-IsPlacedAs runs (Some site) kept = stored_site kept ≡ site
+abbrev pub IsPlacedAs : RunState → Option StoredSite → KeptLease → Type 0
+IsPlacedAs run None kept = kept.attempt ≡ run.attempt
+IsPlacedAs run (Some site) kept = stored_site kept ≡ site
 
 pub record IsLeaseAs (most : ℕ) (runs : List RunState) (parts : StoredLease) (kept : KeptLease) : Type 0 where
   pub lease : kept.lease_reply.lease ≡ parts.lease
-  pub place : IsPlacedAs runs parts.place kept
   pub is_of_a_leg : IsOfALeg most runs kept
+  pub place : IsPlacedAs is_of_a_leg.run parts.place kept
 
 -- ---- runners
 
@@ -60,6 +59,7 @@ pub record AreRunnersAs (most : ℕ) (runs : List RunState) (parts : List Runner
 pub record IsStoredAs (parts : TableParts) (t : TableState) : Type 0 where
   pub is_sound : IsSound t
   pub last_lease : t.last_lease ≡ parts.last_lease
+  pub forgotten : t.forgotten ≡ parts.forgotten
   pub runs : map stored_run t.runs ≡ parts.runs
   pub runners : AreRunnersAs t.last_lease t.runs parts.runners t.runners
 

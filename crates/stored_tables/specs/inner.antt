@@ -2,3 +2,4 @@
 pub mod ByLease
 pub mod ByNumber
 pub mod OneByOne
+pub mod StoredSites

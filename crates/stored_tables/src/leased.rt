@@ -3,13 +3,13 @@
 ghost use Rattle.std.specs.BTreeMap.{get};
 ghost use Rattle.std.specs.Bool.{Decides};
 ghost use Rattle.std.specs.Ordering.{nat_cmp};
-ghost use Rattle.std.specs.Prelude.{◌≡◌, ◌≤◌, IfOk, MatchOption, None, Some, nat_lt, option_map};
+ghost use Rattle.std.specs.Prelude.{◌≡◌, ◌<◌, ◌≤◌, IfOk, MatchOption, None, Some, nat_lt, option_map};
 ghost use Rattle.wf_value.specs.Gives.{ErrsOnlyByMemory};
 ghost use Rattle.run_plan.specs.declared.last_command.KeptLease.{KeptLease as Kept};
 ghost use Rattle.stored_tables.specs.inner.ByLease.{FindsLegs};
 ghost use Rattle.table_model.specs.Sound.{IdsFollow, IsOfALeg};
 ghost use Rattle.table_model.specs.Step.{kept_lease};
-ghost use Rattle.stored_tables.specs.Stored.{site_in_runs};
+ghost use Rattle.stored_tables.specs.inner.StoredSites.{site_in_runs};
 ghost use Rattle.stored_tables.specs.TableOf.{IsLeaseAs};
 ghost use Rattle.table_model.specs.AsPlanned.{AreAsPlanned};
 ghost use Rattle.table_model.specs.Runs.{run_at};
@@ -17,6 +17,7 @@ ghost use Rattle.table_model.specs.LegContext.{planned_legs};
 
 use crate::parts::{StoredLease, StoredSite};
 use crate::sound::jobs::planned_legs;
+use forgotten_runs::ForgottenRuns;
 use run_plan::{KeptLease, Number};
 use run_table::{kept_lease, leg_has_lease};
 use std::alloc::Global;
@@ -25,11 +26,12 @@ use table_model::LegSite;
 use table_runs::runs::Runs;
 use wf_value::Refusal;
 
-/// What a stored lease is checked against: the last lease, the runs, and the sites of their legs by lease.
+/// What a stored lease is checked against: the last lease, the forgotten runs, the others, and the sites of their legs by lease.
 #[derive(Drop)]
 pub(crate) struct Leased<'a> {
     pub alloc: Global,
     pub last: u32,
+    pub forgotten: &'a ForgottenRuns,
     pub runs: &'a Runs,
     pub legs: &'a BTreeMap<u32, LegSite>,
 }
@@ -39,7 +41,7 @@ impl<'a> Leased<'a> {
     pub(crate) fn lease(&self, parts: &StoredLease) -> Result<Option<KeptLease>, Refusal>
         requires legs { FindsLegs self.now.runs.now (get nat_cmp self.now.legs.now) }
         requires planned { AreAsPlanned self.now.runs.now }
-        requires ids { IdsFollow self.now.runs.now }
+        requires ids { IdsFollow self.now.forgotten.now self.now.runs.now }
         ensures err { ErrsOnlyByMemory result }
         ensures of { IfOk result (λ found. MatchOption found
             ((kept : Kept) → IsLeaseAs self.now.last self.now.runs.now parts.now kept → ⊥)
@@ -60,7 +62,7 @@ impl<'a> Leased<'a> {
         requires last { lease ≤ self.now.last }
         requires legs { FindsLegs self.now.runs.now (get nat_cmp self.now.legs.now) }
         requires planned { AreAsPlanned self.now.runs.now }
-        requires ids { IdsFollow self.now.runs.now }
+        requires ids { IdsFollow self.now.forgotten.now self.now.runs.now }
         ensures err { ErrsOnlyByMemory result }
         ensures of { IfOk result (λ found. MatchOption found
             ((kept : Kept) → IsLeaseAs self.now.last self.now.runs.now (record { lease = lease; place = None }) kept → ⊥)
@@ -76,16 +78,20 @@ impl<'a> Leased<'a> {
         Ok(Some(kept))
     }
 
-    /// The lease, at the site where it was granted, or `None` if there is no such leg.
+    /// The lease, at the site where it was granted, or `None` if there is no such leg, or its run is forgotten.
     fn given_at(&self, lease: Number, stored: &StoredSite) -> Result<Option<KeptLease>, Refusal>
         requires last { lease ≤ self.now.last }
-        requires ids { IdsFollow self.now.runs.now }
+        requires ids { IdsFollow self.now.forgotten.now self.now.runs.now }
         ensures err { ErrsOnlyByMemory result }
         ensures of { IfOk result (λ found. MatchOption found
             ((kept : Kept) → IsLeaseAs self.now.last self.now.runs.now (record { lease = lease; place = Some stored.now }) kept → ⊥)
             (λ kept. IsLeaseAs self.now.last self.now.runs.now (record { lease = lease; place = Some stored.now }) kept)) }
     {
-        let site = site_in_runs(stored);
+        let through = self.forgotten.through();
+        if stored.run.get() <= through {
+            return Ok(None);
+        }
+        let site = site_in_runs(through, stored);
         let attempt = stored.attempt;
         if !self.is_of_a_leg(lease, attempt, site) {
             return Ok(None);
@@ -97,7 +103,7 @@ impl<'a> Leased<'a> {
     /// Whether the plan has the leg at the site, and the leg may have been granted the lease in this attempt.
     fn is_of_a_leg(&self, lease: Number, attempt: Number, site: LegSite) -> bool
         requires last { lease ≤ self.now.last }
-        requires ids { IdsFollow self.now.runs.now }
+        requires ids { IdsFollow self.now.forgotten.now self.now.runs.now }
         ensures { Decides result (IsOfALeg self.now.last self.now.runs.now (kept_lease self.now.runs.now attempt site lease)) }
     {
         let Some(present) = attempt_of(self.runs, site) else {
@@ -113,11 +119,13 @@ impl<'a> Leased<'a> {
     }
 }
 
-fn site_in_runs(stored: &StoredSite) -> LegSite
-    ensures place { result ≡ site_in_runs stored.now }
-    ensures run { 1 ≤ stored.now.run }
+/// The site among the runs, where those with ids through this one are forgotten.
+fn site_in_runs(through: u32, stored: &StoredSite) -> LegSite
+    requires { through < stored.now.run }
+    ensures { result ≡ site_in_runs through stored.now }
 {
-    LegSite::new(stored.run.get() as usize - 1, stored.job, stored.leg)
+    let run = stored.run.get() - through - 1;
+    LegSite::new(run as usize, stored.job, stored.leg)
 }
 
 fn is_planned(runs: &Runs, site: LegSite) -> bool

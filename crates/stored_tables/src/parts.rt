@@ -6,6 +6,7 @@ ghost use Rattle.std.specs.Ordering.{is_lt, nat_cmp};
 ghost use Rattle.std.specs.Prelude.{◌≡◌};
 ghost use Rattle.definitions.specs.Rising.{rises_by};
 
+use forgotten_runs::ForgottenParts;
 use run_plan::{Claim, Done, Number, RunnerName};
 use std::marker::Model;
 use table_model::RunParts;
@@ -62,7 +63,8 @@ impl Model for RunnerParts {
 #[derive(Drop)]
 pub struct TableParts {
     pub last_lease: u32,
-    /// The runs, in the order of their ids.
+    pub forgotten: ForgottenParts,
+    /// The runs that are not forgotten, in the order of their ids.
     pub runs: Sequence<RunParts>,
     /// The runners, in the byte order of their names.
     pub runners: Sequence<RunnerParts>,
@@ -73,7 +75,7 @@ impl Model for TableParts {
 
     ghost Value = { TableParts };
 
-    ghost view = { λ t. record { last_lease = t.last_lease; runs = t.runs; runners = t.runners } };
+    ghost view = { λ t. record { last_lease = t.last_lease; forgotten = t.forgotten; runs = t.runs; runners = t.runners } };
 }
 
 fn is_below(runner: &RunnerParts, next: &RunnerParts) -> bool

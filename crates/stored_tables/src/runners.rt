@@ -14,6 +14,7 @@ ghost use Rattle.table_model.specs.Sound.{IdsFollow};
 
 use crate::leased::Leased;
 use crate::parts::{LastParts, RunnerParts, StoredLease, do_names_rise};
+use forgotten_runs::ForgottenRuns;
 use run_plan::{ClaimReply, LastCommand};
 use run_table::Runner;
 use std::alloc::Global;
@@ -26,13 +27,14 @@ use wf_value::{Refusal, TryCopy};
 pub(crate) fn runners_of(
     alloc: Global,
     last: u32,
+    forgotten: &ForgottenRuns,
     runs: &Runs,
     legs: &BTreeMap<u32, LegSite>,
     parts: &[RunnerParts],
 ) -> Result<Option<Vec<Runner>>, Refusal>
     requires legs { FindsLegs runs.now (get nat_cmp legs.now) }
     requires planned { AreAsPlanned runs.now }
-    requires ids { IdsFollow runs.now }
+    requires ids { IdsFollow forgotten.now runs.now }
     ensures err { ErrsOnlyByMemory result }
     ensures of { IfOk result (λ found. MatchOption found
         ((runners : List RunnerState) → AreRunnersAs last runs.now parts.now runners → names_rise runners ≡ true → ⊥)
@@ -44,6 +46,7 @@ pub(crate) fn runners_of(
     let leased = Leased {
         alloc,
         last,
+        forgotten,
         runs,
         legs,
     };
@@ -55,7 +58,7 @@ impl<'a> Leased<'a> {
     fn reply(&self, given: Option<StoredLease>) -> Result<Option<ClaimReply>, Refusal>
         requires legs { FindsLegs self.now.runs.now (get nat_cmp self.now.legs.now) }
         requires planned { AreAsPlanned self.now.runs.now }
-        requires ids { IdsFollow self.now.runs.now }
+        requires ids { IdsFollow self.now.forgotten.now self.now.runs.now }
         ensures err { ErrsOnlyByMemory result }
         ensures of { IfOk result (λ found. MatchOption found
             ((reply : Reply) → IsReplyAs self.now.last self.now.runs.now given reply → ⊥)
@@ -73,7 +76,7 @@ impl<'a> Leased<'a> {
     fn last(&self, parts: &LastParts) -> Result<Option<LastCommand>, Refusal>
         requires legs { FindsLegs self.now.runs.now (get nat_cmp self.now.legs.now) }
         requires planned { AreAsPlanned self.now.runs.now }
-        requires ids { IdsFollow self.now.runs.now }
+        requires ids { IdsFollow self.now.forgotten.now self.now.runs.now }
         ensures err { ErrsOnlyByMemory result }
         ensures of { IfOk result (λ found. MatchOption found
             ((last : Last) → IsLastAs self.now.last self.now.runs.now parts.now last → ⊥)
@@ -93,7 +96,7 @@ impl<'a> Leased<'a> {
     fn runner(&self, parts: &RunnerParts) -> Result<Option<Runner>, Refusal>
         requires legs { FindsLegs self.now.runs.now (get nat_cmp self.now.legs.now) }
         requires planned { AreAsPlanned self.now.runs.now }
-        requires ids { IdsFollow self.now.runs.now }
+        requires ids { IdsFollow self.now.forgotten.now self.now.runs.now }
         ensures err { ErrsOnlyByMemory result }
         ensures of { IfOk result (λ found. MatchOption found
             ((runner : RunnerState) → IsRunnerAs self.now.last self.now.runs.now parts.now runner → ⊥)
@@ -113,7 +116,7 @@ impl<'a> Leased<'a> {
     fn runners(&self, parts: &[RunnerParts]) -> Result<Option<Vec<Runner>>, Refusal>
         requires legs { FindsLegs self.now.runs.now (get nat_cmp self.now.legs.now) }
         requires planned { AreAsPlanned self.now.runs.now }
-        requires ids { IdsFollow self.now.runs.now }
+        requires ids { IdsFollow self.now.forgotten.now self.now.runs.now }
         ensures err { ErrsOnlyByMemory result }
         ensures of { IfOk result (λ found. MatchOption found
             ((runners : List RunnerState) → AreRunnersAs self.now.last self.now.runs.now parts.now runners → ⊥)

@@ -17,7 +17,7 @@ use Rattle.table_model.proofs.Found.{find_passes, none_found}
 use Rattle.table_model.proofs.RunFits.{RunsFit}
 use Rattle.settling_laws.proofs.OneEach.{IsOneOf, each_holder, one_that_holds, one_that_waits}
 use Rattle.run_table.proofs.Kept.{kept_from_sound}
-use Rattle.run_table.proofs.RunnerOrder.{filter_all, filter_none}
+use Rattle.table_model.proofs.Filters.{filter_all, filter_none}
 use Rattle.settling_laws.proofs.ArrivalKeeps.{holder_tested}
 use Rattle.table_laws.specs.GroupChanges.{base_moves, beyond_base, in_progress_moves}
 use Rattle.table_laws.specs.GroupHistories.{first_moves}

@@ -9,7 +9,8 @@ use Rattle.group_name.specs.Group.{Group, same_group}
 use Rattle.definitions.specs.SmallText.{Admitted}
 use Rattle.table_model.specs.Groups.{cancels_in_progress, group_at, leg_cancels, run_cancels, run_facts_at, is_in}
 use Rattle.table_model.specs.Holders.{run_of}
-use Rattle.table_model.specs.LegContext.{facts_at, next_run}
+use Rattle.table_model.specs.Forgotten.{ForgottenRuns, next_run}
+use Rattle.table_model.specs.LegContext.{facts_at}
 use Rattle.table_model.specs.Runs.{leg_at, run_at, LegState, RunState}
 use Rattle.table_model.specs.declared.sites.LegSite.{LegSite}
 use Rattle.table_model.proofs.Found.{at_the_end, before_the_end}
@@ -62,28 +63,28 @@ past_the_end runs r same = slice_get_past runs r (omega (arith, same))
 none_is_none : {X : Type 0} (o : Option X) (x : X) → o ≡ None → o ≡ Some x → ⊥
 none_is_none o x none some = cc
 
-pub new_run_grows : (runs : List RunState) (event : Admitted) → Grows runs (runs ++ next_run runs event ∷ [])
-new_run_grows runs event = record {
+pub new_run_grows : (forgotten : ForgottenRuns) (runs : List RunState) (event : Admitted) → Grows runs (runs ++ next_run forgotten runs event ∷ [])
+new_run_grows forgotten runs event = record {
   same_identity = (λ r i e. elim (cases_eq r (length runs)) [
     | inl same ↦ absurd (none_is_none (identity_at runs r) i (ap identity_in (past_the_end runs r same)) e)
-    | inr other ↦ ap identity_in (before_the_end runs (next_run runs event) r other) ∙ e
+    | inr other ↦ ap identity_in (before_the_end runs (next_run forgotten runs event) r other) ∙ e
   ]);
   same_attempt = (λ r n e. elim (cases_eq r (length runs)) [
     | inl same ↦ absurd (none_is_none (attempt_at runs r) n (ap (option_map (λ (x : RunState). x.attempt)) (past_the_end runs r same)) e)
-    | inr other ↦ ap (option_map (λ (x : RunState). x.attempt)) (before_the_end runs (next_run runs event) r other) ∙ e
+    | inr other ↦ ap (option_map (λ (x : RunState). x.attempt)) (before_the_end runs (next_run forgotten runs event) r other) ∙ e
   ]);
   keeps_results = (λ r j a e. elim (cases_eq r (length runs)) [
     | inl same ↦
         absurd (none_is_none (result_so_far runs r j) a (ap (option_and_then (λ (x : RunState). result_in x j))
         (past_the_end runs r same)) e)
-    | inr other ↦ ap (option_and_then (λ (x : RunState). result_in x j)) (before_the_end runs (next_run runs event) r other) ∙ e
+    | inr other ↦ ap (option_and_then (λ (x : RunState). result_in x j)) (before_the_end runs (next_run forgotten runs event) r other) ∙ e
   ]);
   same_attempts = (λ h. elim (cases_eq (run_of h) (length runs)) [
     | inl same ↦
-        ap (λ (k : ℕ). option_map_or (λ x. x.attempt) (run_at (runs ++ next_run runs event ∷ []) k) 1) same
-        ∙ ap (λ o. option_map_or (λ x. x.attempt) o 1) (at_the_end runs (next_run runs event))
+        ap (λ (k : ℕ). option_map_or (λ x. x.attempt) (run_at (runs ++ next_run forgotten runs event ∷ []) k) 1) same
+        ∙ ap (λ o. option_map_or (λ x. x.attempt) o 1) (at_the_end runs (next_run forgotten runs event))
         ∙ sym (ap (λ o. option_map_or (λ x. x.attempt) o 1) (past_the_end runs (run_of h) same))
-    | inr other ↦ ap (λ o. option_map_or (λ x. x.attempt) o 1) (before_the_end runs (next_run runs event) (run_of h) other)
+    | inr other ↦ ap (λ o. option_map_or (λ x. x.attempt) o 1) (before_the_end runs (next_run forgotten runs event) (run_of h) other)
   ]);
 }
 

@@ -1,11 +1,13 @@
 -- Holders and moves when the first runs are dropped: the holders of the other runs move down, and so do their moves.
-use Rattle.std.specs.Prelude.{◌≡◌, ℕ, ◌+◌, ◌-◌, ◌≤◌, List, [], ◌∷◌, map, nat_le, Bool, true, false, if◌then◌else◌, refl}
+use Rattle.std.specs.Prelude.{◌≡◌, ℕ, ◌+◌, List, [], ◌∷◌, map, nat_le, Bool, true, false, if◌then◌else◌, refl}
 use Rattle.std.proofs.Common.{arith, ap, ap₂, sym, subst, ◌∙◌}
 use Rattle.std.proofs.lemmas.Bool.{le-leb, leb-true}
 use Rattle.table_model.specs.GroupLaw.{holder_of, is_in_progress, is_pending, Move}
 use Rattle.table_model.specs.Holders.{run_of}
+use Rattle.settling_laws.specs.Moved.{moved}
+use Rattle.settling_laws.proofs.MovedHolders.{down_moved, moved_apart, moved_back, moved_down}
 use Rattle.table_laws.specs.Names.{renamed}
-use Rattle.table_laws.proofs.Agrees.{Agrees, IsInjective}
+use Rattle.table_laws.proofs.Agrees.{Agrees}
 use Rattle.table_laws.proofs.HolderStatus.{Fits, Status}
 use Rattle.table_laws.proofs.OwnMoves.{of_group, own, own_of_group, runs_by_own, waits_by_own}
 use Rattle.table_laws.proofs.Through.{in_progress_as, own_renamed, pending_as, renamed_agrees}
@@ -14,32 +16,9 @@ use Rattle.table_model.specs.declared.holder.Holder.TheVariants.{Run, Leg}
 
 -- ---- holders
 
--- where the holder at an index without the first k runs stood among all of them
-abbrev pub moved : ℕ → Holder → Holder
-moved k (Run r) = Run (k + r)
-moved k (Leg p) = Leg (record { run = k + p.run; job = p.job; leg = p.leg })
-
--- where a holder of the other runs stands without them
-abbrev pub moved_down : ℕ → Holder → Holder
-moved_down k (Run r) = Run (r - k)
-moved_down k (Leg p) = Leg (record { run = p.run - k; job = p.job; leg = p.leg })
-
 -- it is of one of the other runs
 abbrev pub stays : ℕ → Holder → Bool
 stays k h = nat_le k (run_of h)
-
-pub down_moved : (k : ℕ) (h : Holder) → moved_down k (moved k h) ≡ h
-down_moved k (Run r) = let at : (k + r) - k ≡ r = omega arith in ap (λ n. Run n) at
-down_moved k (Leg p) =
-    let at : (k + p.run) - k ≡ p.run = omega arith in ap (λ n. Leg (record { run = n; job = p.job; leg = p.leg })) at
-
-moved_back : (k : ℕ) (h : Holder) → k ≤ run_of h → moved k (moved_down k h) ≡ h
-moved_back k (Run r) le = let at : k + (r - k) ≡ r = omega (arith, le) in ap (λ n. Run n) at
-moved_back k (Leg p) le =
-    let at : k + (p.run - k) ≡ p.run = omega (arith, le) in ap (λ n. Leg (record { run = n; job = p.job; leg = p.leg })) at
-
-pub moved_apart : (k : ℕ) → IsInjective (moved k)
-moved_apart k h i e = sym (down_moved k h) ∙ ap (moved_down k) e ∙ down_moved k i
 
 pub moved_stays : (k : ℕ) (h : Holder) → stays k (moved k h) ≡ true
 moved_stays k (Run r) = le-leb k (k + r) (omega arith)

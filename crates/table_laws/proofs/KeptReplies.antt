@@ -1,11 +1,12 @@
--- What is kept about a runner does not change until a later command of it is carried out: its last number, the command, and the reply to
--- it.
-use Rattle.std.proofs.Common.{◌≡◌, ℕ, ◌+◌, ◌<◌, ◌≤◌, Bool, true, false, List, [], ◌∷◌, refl, sym, ◌∙◌, ap, subst}
-use Rattle.std.proofs.Common.{arith}
-use Rattle.std.specs.Prelude.{Option, Some, None, option_map, if◌then◌else◌, nat_eq, nat_lt, ◌&&◌}
+-- What is kept about a runner does not change until a later command of it is carried out or it is discharged: its last number, the command,
+-- and the reply to it. A lease of a forgotten run is no longer the reply.
+use Rattle.std.proofs.Common.{◌≡◌, ℕ, ◌+◌, ◌<◌, ◌≤◌, Bool, true, false, List, [], ◌∷◌, map, not, refl, sym, ◌∙◌, ap, subst}
+use Rattle.std.proofs.Common.{arith, cond, inl, inr}
+use Rattle.std.specs.Prelude.{Option, Some, None, option_map, if◌then◌else◌, nat_eq, nat_le, nat_lt, ◌&&◌}
 use Rattle.std.specs.Option.{option_map_or, option_or}
 use Rattle.std.specs.Str.{bytes_eq}
-use Rattle.std.proofs.lemmas.Bool.{and_parts, eq-eqb, eqb-true, ltb-false, ltb-true, true≢false}
+use Rattle.std.proofs.lemmas.Bool.{and_parts, cases_eq, eq-eqb, eqb-true, le-leb, leb-true, lt-ltb, ltb-false, ltb-true, true≢false}
+use Rattle.std.proofs.lemmas.List.{length-take-le}
 use Rattle.std.proofs.lemmas.Slice.Eq.{bytes_eq-Decides}
 use Rattle.std.proofs.lemmas.Option.{same_Some}
 use Rattle.wf_value.specs.declared.code.Code.TheVariants.{HasLease, LastCounter, LeaseNotHeld, NoRunner}
@@ -19,17 +20,25 @@ use Rattle.run_plan.specs.declared.command.Command.TheVariants as command
 use Rattle.run_plan.specs.declared.command.Done.{Done as Reported}
 use Rattle.run_plan.specs.declared.last_command.ClaimReply.TheVariants as given
 use Rattle.run_plan.specs.declared.last_command.LastCommand.{LastCommand}
+use Rattle.run_plan.specs.declared.last_command.LastCommand.TheVariants as last
 use Rattle.run_plan.specs.declared.reply.Reply.{Reply}
 use Rattle.run_plan.specs.declared.reply.Reply.TheVariants as reply
 use Rattle.table_model.specs.Fitting.{first_fit}
 use Rattle.table_model.specs.Step.{after, admission_answer, admitting, cancel_answer, cancelling, claim_answer, claiming, claiming_runner}
-use Rattle.table_model.specs.TableState.{Step, RunnerState, TableState}
+use Rattle.table_model.specs.Forgotten.{ForgottenRuns}
+use Rattle.table_model.specs.TableState.{Step, RunnerState, TableState, is_named}
+use Rattle.table_model.specs.Step.{discharge_answer, discharging, forgettable, forgot, last_through, runner_through, without}
 use Rattle.table_model.specs.Step.{has_no_lease_left}
 use Rattle.table_model.specs.Step.{kept_lease_at, lease_answer, lease_at, leasing, losing, lost, refused, released, report_answer, reporting}
 use Rattle.table_model.specs.Step.{reporting_runner, outcome, rerun_answer, rerunning, serving_nothing, step, stepped, unchanged}
 use Rattle.table_model.specs.TableState.{answer_by_number, holds_lease, holds_this, is_repeated, number_of, runner_named, number_refusal, with_runner}
+use Rattle.table_model.proofs.Filters.{find_kept}
+use Rattle.settling_laws.proofs.ForgetKeepsSound.{first_within}
 use Rattle.run_table.proofs.RunnerPut.{found_new, found_other, has_the_name}
-use Rattle.table_laws.specs.ExactlyOnce.{HasNumber, HaveNoLaterNumber, IsRefused}
+use Rattle.table_laws.specs.ExactlyOnce.{HasNumber, HaveNoDischarge, HaveNoLaterNumber, IsRefused}
+use Rattle.table_laws.specs.Remembered.{IsNoDischarge, IsNoLaterNumber, reply_then, reply_without}
+use Rattle.table_laws.proofs.ForgetSteps.{IsNoForget, forget_or_not, forgot_is}
+use Rattle.table_laws.proofs.StepsStay.{forgotten_stays, through_rises, through_rises_on}
 
 -- ---- what is kept
 
@@ -177,32 +186,55 @@ module _ (name : List ℕ) (number : ℕ) (same : LastCommand → Bool) (kept : 
         | false ↦ λ is. ltb-false number n is
       ] refl
 
-  pub has_step : (t : TableState) (c : Command) → ((n : ℕ) → HasNumber c name n → number < n → IsRefused (stepped t c).reply) → Has t
-      → Has (stepped t c).table
-  has_step t (command.Admit event) no_later has =
+  -- a runner is discharged
+  has_discharge : (t : TableState) (who : List ℕ) → (who ≡ name → ⊥) → Has t → Has (discharging t who).table
+  has_discharge t who other has = record {
+    runner = has.runner;
+    found = find_kept (is_named name) (λ x. not (is_named who x)) (λ x named. ap not (not_named x named)) t.runners ∙ has.found;
+    number_is = has.number_is;
+    passes = has.passes;
+    keeps = has.keeps;
+  }
+    where
+      not_named : (x : RunnerState) → is_named name x ≡ true → is_named who x ≡ false
+      not_named x named =
+          elim (is_named who x) as (λ b. is_named who x ≡ b → b ≡ false) [
+            | true ↦ λ too.
+                absurd (other (sym ((bytes_eq-Decides x.name who).0 too) ∙ (bytes_eq-Decides x.name name).0 named))
+            | false ↦ λ isnt. refl
+          ] refl
+
+  discharge_unrefused : (t : TableState) (who : List ℕ) → discharge_answer t who ≡ None
+      → IsRefused (stepped t (command.Discharge who)).reply → ⊥
+  discharge_unrefused t who none =
+      subst (λ (o : Option Reply). IsRefused (option_map_or (unchanged t) o (discharging t who)).reply → ⊥) (sym none) (λ is. cc is.1)
+
+  -- a command that forgets no run
+  kept_step : (t : TableState) (c : Command) → IsNoForget c → IsNoLaterNumber name number c (stepped t c).reply
+      → IsNoDischarge name c (stepped t c).reply → Has t → Has (stepped t c).table
+  kept_step t (command.Admit event) other no_later no_discharge has =
       answered t (admission_answer t event) (admitting t event) has (λ none. has_runners t (admitting t event).table refl has)
-  has_step t (command.Claim claim) no_later has =
+  kept_step t (command.Claim claim) other no_later no_discharge has =
       answered t (claim_answer t claim) (claiming t claim) has
       (λ none. has_claim t claim
       (λ own. at_most claim.number (λ more. claim_unrefused t claim none (no_later claim.number (own, refl) more))) none has)
-  has_step t (command.Done report) no_later has =
+  kept_step t (command.Done report) other no_later no_discharge has =
       answered t (report_answer t report) (reporting t report) has
       (λ none. has_report t report
       (λ own. at_most report.number (λ more. report_unrefused t report none (no_later report.number (own, refl) more))) none has)
-  has_step t (command.Beat beat) no_later has = has
-  has_step t (command.Cancel id) no_later has =
+  kept_step t (command.Beat beat) other no_later no_discharge has = has
+  kept_step t (command.Cancel id) other no_later no_discharge has =
       answered t (cancel_answer t id) (cancelling t id) has (λ none. has_runners t (cancelling t id).table refl has)
-  has_step t (command.Lost who) no_later has = has_lost t who has
-  has_step t (command.Fetch id) no_later has = has
-  has_step t (command.Look id) no_later has = has
-  has_step t (command.Rerun requested) no_later has =
+  kept_step t (command.Lost who) other no_later no_discharge has = has_lost t who has
+  kept_step t (command.Fetch id) other no_later no_discharge has = has
+  kept_step t (command.Look id) other no_later no_discharge has = has
+  kept_step t (command.Rerun requested) other no_later no_discharge has =
       answered t (rerun_answer t requested) (rerunning t requested) has (λ none. has_runners t (rerunning t requested).table refl has)
-
-  pub has_after : (t : TableState) (cs : List Command) → HaveNoLaterNumber name number cs → Has t → Has (after t cs)
-  has_after t [] no_later has = has
-  has_after t (c ∷ cs) no_later has =
-      has_after (stepped t c).table cs no_later.1
-      (has_step t c (λ n numbered later. absurd (omega (arith, no_later.0 n numbered, later))) has)
+  kept_step t (command.Forget id) other no_later no_discharge has = absurd other
+  kept_step t (command.Discharge who) other no_later no_discharge has =
+      answered t (discharge_answer t who) (discharging t who) has
+      (λ none. has_discharge t who
+      (λ named. discharge_unrefused t who none (no_discharge (ap (λ w. command.Discharge w) named))) has)
 
   -- the same command again
   pub answer_again : (t : TableState) → Has t → answer_by_number (runner_named t.runners name) number same ≡ Some kept
@@ -213,6 +245,144 @@ module _ (name : List ℕ) (number : ℕ) (same : LastCommand → Bool) (kept : 
       ap (λ (o : Option RunnerState). answer_by_number o number same) has.found
       ∙ ap (λ (b : Bool). if b then Some (kept_reply x.last) else number_refusal x.number number) repeats
       ∙ ap (λ (r : Reply). Some r) has.keeps
+
+-- ---- the reply once runs are forgotten
+
+-- the test of a last command does not depend on the kept reply
+abbrev pub IgnoresReply : (LastCommand → Bool) → Type 0
+IgnoresReply same = (through : ℕ) (l : LastCommand) → same (last_through through l) ≡ same l
+
+same_reply : (t next : TableState) (given : Reply) → next.forgotten.through ≡ t.forgotten.through → reply_then t next given ≡ given
+same_reply t next given same =
+    elim (nat_lt t.forgotten.through next.forgotten.through) as
+    (λ b. nat_lt t.forgotten.through next.forgotten.through ≡ b
+    → (if b then reply_without next.forgotten.through given else given) ≡ given) [
+      | true ↦ λ is. absurd (omega (arith, same, ltb-true t.forgotten.through next.forgotten.through is))
+      | false ↦ λ is. refl
+    ] refl
+
+other_reply : (t next : TableState) (given : Reply) → t.forgotten.through < next.forgotten.through
+    → reply_then t next given ≡ reply_without next.forgotten.through given
+other_reply t next given more =
+    ap (λ (b : Bool). if b then reply_without next.forgotten.through given else given)
+    (lt-ltb t.forgotten.through next.forgotten.through more)
+
+reply_without_more : (a b : ℕ) (given : Reply) → a ≤ b → reply_without b (reply_without a given) ≡ reply_without b given
+reply_without_more a b (reply.Lease lease) le =
+    elim (nat_le lease.run a) as
+    (λ x. nat_le lease.run a ≡ x
+    → reply_without b (if x then reply.Nothing else reply.Lease lease) ≡ (if nat_le lease.run b then reply.Nothing else reply.Lease lease)) [
+      | true ↦ λ is.
+          let low = leb-true lease.run a is in
+          sym (ap (λ (x : Bool). if x then reply.Nothing else reply.Lease lease) (le-leb lease.run b (omega (arith, low, le))))
+      | false ↦ λ is. refl
+    ] refl
+reply_without_more a b given le = refl
+
+-- in two steps
+reply_then_on : (t mid last : TableState) (given : Reply) → t.forgotten.through ≤ mid.forgotten.through
+    → mid.forgotten.through ≤ last.forgotten.through → reply_then mid last (reply_then t mid given) ≡ reply_then t last given
+reply_then_on t mid last given first second =
+    let a = t.forgotten.through in
+    let b = mid.forgotten.through in
+    let c = last.forgotten.through in
+    elim (cases_eq b a) [
+      | inl same ↦
+          ap (reply_then mid last) (same_reply t mid given same)
+          ∙ ap (λ n. if nat_lt n c then reply_without c given else given) same
+      | inr less ↦
+          let more : a < b = omega (arith, less, first) in
+          ap (reply_then mid last) (other_reply t mid given more)
+          ∙ elim (cases_eq c b) [
+            | inl same ↦
+                same_reply mid last (reply_without b given) same
+                ∙ ap (λ n. reply_without n given) (sym same) ∙ sym (other_reply t last given (omega (arith, more, same)))
+            | inr later ↦
+                let still : b < c = omega (arith, later, second) in
+                other_reply mid last (reply_without b given) still
+                ∙ reply_without_more b c given second ∙ sym (other_reply t last given (omega (arith, more, still)))
+          ]
+    ]
+
+named_through : (through : ℕ) (name : List ℕ) (runners : List RunnerState)
+    → runner_named (map (runner_through through) runners) name ≡ option_map (runner_through through) (runner_named runners name)
+named_through through name [] = refl
+named_through through name (x ∷ xs) =
+    elim (is_named name x) as
+    (λ b. cond b (Some (runner_through through x)) (runner_named (map (runner_through through) xs) name)
+    ≡ option_map (runner_through through) (cond b (Some x) (runner_named xs name))) [
+      | true ↦ refl
+      | false ↦ named_through through name xs
+    ]
+
+kept_through : (through : ℕ) (l : LastCommand) → kept_reply (last_through through l) ≡ reply_without through (kept_reply l)
+kept_through through (last.Claim claim given.Nothing) = refl
+kept_through through (last.Claim claim (given.Lease kept)) =
+    elim (nat_le kept.lease_reply.run through) as
+    (λ b. kept_reply (last.Claim claim (if b then given.Nothing else given.Lease kept))
+    ≡ (if b then reply.Nothing else reply.Lease kept.lease_reply)) [ true ↦ refl | false ↦ refl ]
+kept_through through (last.Done report) = refl
+
+module _ (name : List ℕ) (number : ℕ) (same : LastCommand → Bool) (ignores : IgnoresReply same) where
+  abbrev Keeps : Reply → TableState → Type 0
+  Keeps kept t = HasKept t name number same kept
+
+  as_kept : (t : TableState) (kept given : Reply) → given ≡ kept → Keeps given t → Keeps kept t
+  as_kept t kept given is has = subst (λ r. Keeps r t) is has
+
+  forgot_has : (t : TableState) (kept : Reply) (id : ℕ) → Keeps kept t → Keeps (reply_then t (forgot t id).table kept) (forgot t id).table
+  forgot_has t kept id has =
+      let k = forgettable t id in
+      forgot_is (λ next. Keeps (reply_then t next kept) next) t id
+      (λ none. as_kept t (reply_then t t kept) kept (sym (same_reply t t kept refl)) has)
+      (λ some.
+      let next = without k t in
+      let through = next.forgotten.through in
+      let taken = length-take-le k t.runs (first_within t id) in
+      let more : t.forgotten.through < through = omega (arith, some, taken) in
+      record {
+        runner = runner_through through has.runner;
+        found = named_through through name t.runners ∙ ap (option_map (runner_through through)) has.found;
+        number_is = has.number_is;
+        passes = ignores through has.runner.last ∙ has.passes;
+        keeps = kept_through through has.runner.last ∙ ap (reply_without through) has.keeps ∙ sym (other_reply t next kept more);
+      })
+
+  pub has_step : (t : TableState) (kept : Reply) (c : Command) → IsNoLaterNumber name number c (stepped t c).reply
+      → IsNoDischarge name c (stepped t c).reply → Keeps kept t → Keeps (reply_then t (stepped t c).table kept) (stepped t c).table
+  has_step t kept c no_later no_discharge has =
+      elim (forget_or_not c) [
+        | inl forgets ↦
+            subst (λ (d : Command). Keeps (reply_then t (stepped t d).table kept) (stepped t d).table) (sym forgets.1)
+            (forgot_has t kept forgets.0 has)
+        | inr other ↦
+            let next = (stepped t c).table in
+            as_kept next (reply_then t next kept) kept
+            (sym (same_reply t next kept (ap (λ (f : ForgottenRuns). f.through) (forgotten_stays t c other))))
+            (kept_step name number same kept t c other no_later no_discharge has)
+      ]
+
+  -- after more commands
+  pub has_on : (t : TableState) (kept : Reply) (c : Command) (cs : List Command)
+      → Keeps (reply_then (stepped t c).table (after (stepped t c).table cs) (reply_then t (stepped t c).table kept)) (after (stepped t c).table cs)
+      → Keeps (reply_then t (after t (c ∷ cs)) kept) (after t (c ∷ cs))
+  has_on t kept c cs has =
+      let next = (stepped t c).table in
+      let last = after next cs in
+      as_kept last (reply_then t last kept) (reply_then next last (reply_then t next kept))
+      (reply_then_on t next last kept (through_rises t c) (through_rises_on next cs)) has
+
+  pub has_first : (t : TableState) (kept : Reply) → Keeps kept t → Keeps (reply_then t t kept) t
+  has_first t kept has = as_kept t (reply_then t t kept) kept (sym (same_reply t t kept refl)) has
+
+  pub has_after : (t : TableState) (kept : Reply) (cs : List Command) → HaveNoLaterNumber name number cs → HaveNoDischarge name cs
+      → Keeps kept t → Keeps (reply_then t (after t cs) kept) (after t cs)
+  has_after t kept [] no_later no_discharge has = has_first t kept has
+  has_after t kept (c ∷ cs) no_later no_discharge has =
+      let next = (stepped t c).table in
+      has_on t kept c cs
+      (has_after next (reply_then t next kept) cs no_later.1 no_discharge.1
+      (has_step t kept c (λ n numbered later. absurd (omega (arith, no_later.0 n numbered, later))) (λ is. absurd (no_discharge.0 is)) has))
 
 -- ---- what a command that is not refused leaves
 
@@ -351,6 +521,15 @@ test_of (command.Lost name) = λ l. false
 test_of (command.Look id) = λ l. false
 test_of (command.Fetch id) = λ l. false
 test_of (command.Rerun requested) = λ l. false
+test_of (command.Forget id) = λ l. false
+test_of (command.Discharge name) = λ l. false
+
+pub tests_ignore : (c : Command) → IgnoresReply (test_of c)
+tests_ignore (command.Claim claim) through (last.Claim earlier given) = refl
+tests_ignore (command.Claim claim) through (last.Done earlier) = refl
+tests_ignore (command.Done report) through (last.Claim earlier given) = refl
+tests_ignore (command.Done report) through (last.Done earlier) = refl
+tests_ignore c through l = refl
 
 at_number : (P : List ℕ → ℕ → Type 0) (a b : List ℕ) (m n : ℕ) → a ≡ b → m ≡ n → P a m → P b n
 at_number P a b m n names numbers h = subst (λ (x : List ℕ). P x n) names (subst (λ (k : ℕ). P a k) numbers h)
@@ -372,6 +551,8 @@ numbered_has t (command.Lost who) name number numbered taken = absurd numbered
 numbered_has t (command.Look id) name number numbered taken = absurd numbered
 numbered_has t (command.Fetch id) name number numbered taken = absurd numbered
 numbered_has t (command.Rerun requested) name number numbered taken = absurd numbered
+numbered_has t (command.Forget id) name number numbered taken = absurd numbered
+numbered_has t (command.Discharge who) name number numbered taken = absurd numbered
 
 pub numbered_again : (t : TableState) (c : Command) (name : List ℕ) (number : ℕ) (kept : Reply) → HasNumber c name number
     → HasKept t name number (test_of c) kept → step t c ≡ (t, kept)
@@ -394,13 +575,17 @@ numbered_again t (command.Lost who) name number kept numbered has = absurd numbe
 numbered_again t (command.Look id) name number kept numbered has = absurd numbered
 numbered_again t (command.Fetch id) name number kept numbered has = absurd numbered
 numbered_again t (command.Rerun requested) name number kept numbered has = absurd numbered
+numbered_again t (command.Forget id) name number kept numbered has = absurd numbered
+numbered_again t (command.Discharge who) name number kept numbered has = absurd numbered
 
 -- ---- the law
 
 pub reply_again : (t : TableState) (c : Command) (name : List ℕ) (number : ℕ) (later : List Command) → HasNumber c name number
-    → (IsRefused (stepped t c).reply → ⊥) → HaveNoLaterNumber name number later
-    → step (after (stepped t c).table later) c ≡ (after (stepped t c).table later, (stepped t c).reply)
-reply_again t c name number later numbered taken no_later =
+    → (IsRefused (stepped t c).reply → ⊥) → HaveNoLaterNumber name number later → HaveNoDischarge name later
+    → step (after (stepped t c).table later) c
+    ≡ (after (stepped t c).table later, reply_then (stepped t c).table (after (stepped t c).table later) (stepped t c).reply)
+reply_again t c name number later numbered taken no_later no_discharge =
     let s = stepped t c in
-    numbered_again (after s.table later) c name number s.reply numbered
-    (has_after name number (test_of c) s.reply s.table later no_later (numbered_has t c name number numbered taken))
+    let last = after s.table later in
+    numbered_again last c name number (reply_then s.table last s.reply) numbered
+    (has_after name number (test_of c) (tests_ignore c) s.table s.reply later no_later no_discharge (numbered_has t c name number numbered taken))

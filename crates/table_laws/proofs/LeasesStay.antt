@@ -1,5 +1,5 @@
 -- A leg keeps its lease in each step in which its run keeps its attempt.
-use Rattle.std.specs.Prelude.{◌≡◌, ℕ, ◌+◌, ◌-◌, List, [], ◌∷◌, ◌++◌, Option, Some, None, option_and_then, refl}
+use Rattle.std.specs.Prelude.{◌≡◌, ℕ, ◌+◌, List, [], ◌∷◌, ◌++◌, Option, Some, None, option_and_then, refl}
 use Rattle.std.specs.Option.{option_map_or}
 use Rattle.std.proofs.Common.{arith, ap, inl, inr, sym, ◌∙◌}
 use Rattle.std.proofs.lemmas.Bool.{cases_eq}
@@ -12,7 +12,8 @@ use Rattle.run_plan.specs.declared.reply.Reply.{Reply}
 use Rattle.wf_value.specs.declared.code.Code.TheVariants.{LeaseNotHeld, NoRunner}
 use Rattle.table_model.specs.Fitting.{first_fit}
 use Rattle.table_model.specs.Step.{after, admission_answer, admitting, cancel_answer, cancelling, claim_answer, claimed, claiming, entered}
-use Rattle.table_model.specs.TableState.{Step, TableState, runner_named}
+use Rattle.table_model.specs.Step.{discharge_answer, discharging}
+use Rattle.table_model.specs.TableState.{Step, TableState, index_of, runner_named}
 use Rattle.table_model.specs.Runs.{with_leg, with_run, again, leased_leg, LegState, RunState}
 use Rattle.table_model.specs.declared.sites.LegSite.{LegSite}
 use Rattle.table_model.specs.Settling.{settled}
@@ -33,8 +34,10 @@ use Rattle.table_model.proofs.LegReads.{had_at, had_from_leg, had_in}
 use Rattle.run_table.proofs.ReportKeeps.{loss_keeps, report_keeps}
 use Rattle.table_model.proofs.RunFits.{RunsFit, leases_fit}
 use Rattle.settling_laws.proofs.SettlingKeeps.{settling_settles}
+use Rattle.settling_laws.specs.Moved.{moved_leg}
 use Rattle.table_laws.specs.Names.{attempt_of}
 use Rattle.table_laws.proofs.AttemptNames.{attempt_before, attempt_then}
+use Rattle.table_laws.proofs.ForgetSteps.{Dropped, IsNoForget, run_then}
 use Rattle.table_laws.proofs.ReachedTables.{with_ended_keeps_leases}
 use Rattle.table_model.specs.declared.holder.Holder.TheVariants.{Leg}
 
@@ -104,7 +107,7 @@ again_had t requested s p n =
       | Some given ↦ λ is same e. e
       | None ↦ λ none same e.
           let begins = begins_again t requested none in
-          let r = requested.run - 1 in
+          let r = index_of t requested.run in
           let fit = (kept_from_sound t s).fit in
           let entry = entered_again_settles t r fit in
           elim (cases_eq p.run r) [
@@ -121,28 +124,35 @@ again_had t requested s p n =
     ] refl
 
 -- for a run that keeps its attempt
-pub step_had : (t : TableState) (c : Command) → IsSound t → (p : LegSite) (n : ℕ)
+pub step_had : (t : TableState) (c : Command) → IsNoForget c → IsSound t → (p : LegSite) (n : ℕ)
     → attempt_of (stepped t c).table.runs (Leg p) ≡ attempt_of t.runs (Leg p) → had_at t.runs p ≡ Some n
     → had_at (stepped t c).table.runs p ≡ Some n
-step_had t (command.Admit event) s p n same =
+step_had t (command.Admit event) other s p n same =
     had_by t (admission_answer t event) (admitting t event) (λ none.
     let kept = kept_from_sound t s in
     had_at_rest t.runs (entered t event).runs (entered_keeps t event kept none).fit
-    (λ p n e. (entered_settles t event kept.fit).same_had p ∙ same_reads t.runs event (λ (z : LegState). z.lease) p ∙ e)) p n
-step_had t (command.Claim claim) s p n same = claim_had t claim s p n
-step_had t (command.Done report) s p n same =
+    (λ p n e. (entered_settles t event kept.fit).same_had p ∙ same_reads t.forgotten t.runs event (λ (z : LegState). z.lease) p ∙ e)) p n
+step_had t (command.Claim claim) other s p n same = claim_had t claim s p n
+step_had t (command.Done report) other s p n same =
     had_by t (report_answer t report) (reporting t report) (λ none.
     had_at_rest t.runs (with_ended report.lease report.result t.runs) (report_keeps t report (kept_from_sound t s) none).fit
     (λ p n e. with_ended_keeps_leases report.lease report.result p t.runs ∙ e)) p n
-step_had t (command.Beat beat) s p n same = λ e. e
-step_had t (command.Cancel id) s p n same =
+step_had t (command.Beat beat) other s p n same = λ e. e
+step_had t (command.Cancel id) other s p n same =
     had_by t (cancel_answer t id) (cancelling t id) (λ none.
-    let stop = run_stop_settles t.runs (id - 1) (kept_from_sound t s).fit in
-    had_at_rest t.runs (with_run (id - 1) stopped_run t.runs) stop.stay.fit (λ p n e. stop.same_had p ∙ e)) p n
-step_had t (command.Lost name) s p n same = loss_had t name s p n
-step_had t (command.Fetch id) s p n same = λ e. e
-step_had t (command.Look id) s p n same = λ e. e
-step_had t (command.Rerun requested) s p n same = again_had t requested s p n same
+    let stop = run_stop_settles t.runs (index_of t id) (kept_from_sound t s).fit in
+    had_at_rest t.runs (with_run (index_of t id) stopped_run t.runs) stop.stay.fit (λ p n e. stop.same_had p ∙ e)) p n
+step_had t (command.Lost name) other s p n same = loss_had t name s p n
+step_had t (command.Fetch id) other s p n same = λ e. e
+step_had t (command.Look id) other s p n same = λ e. e
+step_had t (command.Rerun requested) other s p n same = again_had t requested s p n same
+step_had t (command.Forget id) other s p n same = absurd other
+step_had t (command.Discharge name) other s p n same =
+    had_by t (discharge_answer t name) (discharging t name) (λ none p n e. e) p n
+
+-- the legs of the runs that are not dropped keep theirs
+pub dropped_had : (k : ℕ) (t next : TableState) → Dropped k t next → (p : LegSite) → had_at next.runs p ≡ had_at t.runs (moved_leg k p)
+dropped_had k t next dropped p = ap (option_and_then (λ (v : RunState). had_in v p.job p.leg)) (run_then k t next dropped p.run)
 
 pub after_both : (t : TableState) (first second : List Command) → after t (first ++ second) ≡ after (after t first) second
 after_both t [] second = refl

@@ -7,6 +7,8 @@ pub mod BaseSoFar
 pub mod ChangesTold
 pub mod Decided
 pub mod Deliveries
+pub mod Discharges
+pub mod ForgetSteps
 pub mod Forgotten
 pub mod GroupArrival
 pub mod GroupBase
@@ -33,6 +35,7 @@ pub mod IdsGoOn
 pub mod KeptReplies
 pub mod KnownAttempts
 pub mod LawSoFar
+pub mod LeasesGoOn
 pub mod LeasesStay
 pub mod ListWalk
 pub mod NamedLaw

@@ -1,8 +1,8 @@
 -- No leg of a displaced holder is ever leased, as long as its run is at that attempt.
-use Rattle.std.specs.Prelude.{◌≡◌, ◌⊎◌, ℕ, ◌<◌, ◌≤◌, List, [], ◌∷◌, ◌++◌, ◌||◌, true, false, Option, Some, None, refl}
+use Rattle.std.specs.Prelude.{◌≡◌, ◌⊎◌, ℕ, ◌-◌, ◌<◌, ◌≤◌, nat_le, List, [], ◌∷◌, ◌++◌, ◌||◌, true, false, Option, Some, None, refl}
 use Rattle.std.specs.Option.{option_map_or}
 use Rattle.std.proofs.Common.{arith, ap, ap₂, inl, inr, sym, ◌∙◌, subst, append_assoc}
-use Rattle.std.proofs.lemmas.Bool.{cases_eq, false≢true, or_parts, true≢false}
+use Rattle.std.proofs.lemmas.Bool.{cases_eq, false≢true, leb-false, leb-true, or_parts, true≢false}
 use Rattle.std.proofs.lemmas.List.{append-nil}
 use Rattle.std.proofs.lemmas.Option.{none-some}
 use Rattle.group_name.specs.Group.{Group}
@@ -12,20 +12,27 @@ use Rattle.table_model.specs.Runs.{leg_at, run_at, LegState, RunState}
 use Rattle.table_model.specs.declared.sites.LegSite.{LegSite}
 use Rattle.table_model.proofs.JobKeeps.{leg_in, no_leg}
 use Rattle.table_model.proofs.LegReads.{had_at, had_from_leg, leg_from_had}
-use Rattle.table_model.specs.Step.{after, stepped}
+use Rattle.table_model.specs.Forgotten.{ForgottenRuns}
+use Rattle.table_model.specs.Holders.{run_of}
+use Rattle.table_model.specs.Step.{after, forgettable, forgot, stepped}
 use Rattle.table_model.specs.Sound.{IsSound}
 use Rattle.table_model.specs.TableState.{TableState}
 use Rattle.run_table.proofs.StepKeeps.{stepped_is_sound}
+use Rattle.settling_laws.specs.Moved.{moved}
+use Rattle.settling_laws.proofs.MovedHolders.{leg_down, leg_moved_back, moved_back, moved_down}
 use Rattle.table_laws.specs.GroupHistories.{IsOf, all_moves, first_moves, group_moves, moves_in, step_moves}
 use Rattle.table_laws.specs.Names.{Names, attempt_of, by_id, name_in}
+use Rattle.table_laws.proofs.ForgetSteps.{Dropped, IsNoForget, attempt_then, forget_or_not, forgot_drops, same_by_id_then}
 use Rattle.table_laws.proofs.Requesting.{somebody_comes}
 use Rattle.table_laws.proofs.GroupSaid.{arrived_on, started_on}
 use Rattle.table_laws.proofs.HistoryLaw.{attempts_rise, history_goes_on, told_so_far}
 use Rattle.table_laws.proofs.HistoryStep.{SoFar, arrived_in_it}
 use Rattle.table_laws.proofs.HistoryWords.{one_displaced}
 use Rattle.table_laws.proofs.HolderIds.{by_id_apart, same_by_id}
-use Rattle.table_laws.proofs.LeasesStay.{step_had}
+use Rattle.table_laws.proofs.HoldersMoved.{moved_stays}
+use Rattle.table_laws.proofs.LeasesStay.{dropped_had, step_had}
 use Rattle.table_laws.proofs.ReachedTables.{after_is_sound}
+use Rattle.table_laws.proofs.StepsStay.{forgotten_stays}
 use Rattle.table_laws.proofs.Unbegun.{Unbegun}
 use Rattle.table_model.specs.declared.holder.Holder.{Holder}
 use Rattle.table_model.specs.declared.holder.Holder.TheVariants.{Run, Leg}
@@ -61,8 +68,9 @@ module _ (names : Names) (g : Group) (a : ℕ) (m : Holder) where
 
   past_then : (t : TableState) (c : Command) → IsSound t → IsPast t → IsPast (stepped t c).table
   past_then t c s past h is =
-      let before : a < attempt_of t.runs h = past h (is ∙ same_by_id t (stepped t c).table s (stepped_is_sound t c s) h) in
-      let rises : attempt_of t.runs h ≤ attempt_of (stepped t c).table.runs h = attempts_rise g t c s h in
+      let earlier = attempts_rise g t c s h in
+      let before : a < attempt_of t.runs earlier.was = past earlier.was (is ∙ earlier.same_id) in
+      let rises : attempt_of t.runs earlier.was ≤ attempt_of (stepped t c).table.runs h = earlier.no_later in
       omega (arith, before, rises)
 
   not_in_step : (t : TableState) (c : Command) → IsPast (stepped t c).table → has_arrived name (step_moves names g (stepped t c)) ≡ false
@@ -124,7 +132,8 @@ module _ (names : Names) (g : Group) (a : ℕ) (m : Holder) where
         | false ↦ λ none. refl
       ] refl
 
-  module _ (t : TableState) (c : Command) (s : IsSound t) (leased : IsLeased t) where
+  -- a step that forgets no run
+  module _ (t : TableState) (c : Command) (keeps : IsNoForget c) (s : IsSound t) (leased : IsLeased t) where
     abbrev h : Holder
     h = leased.holder
 
@@ -135,7 +144,7 @@ module _ (names : Names) (g : Group) (a : ℕ) (m : Holder) where
     next_sound = stepped_is_sound t c s
 
     same_id : by_id next h ≡ by_id t h
-    same_id = same_by_id t next s next_sound h
+    same_id = same_by_id t next s next_sound (ap (λ (f : ForgottenRuns). f.through) (forgotten_stays t c keeps)) h
 
     same_leg : attempt_of next.runs h ≡ a → attempt_of next.runs (Leg leased.site) ≡ attempt_of t.runs (Leg leased.site)
     same_leg same =
@@ -145,14 +154,16 @@ module _ (names : Names) (g : Group) (a : ℕ) (m : Holder) where
     past_after : (attempt_of next.runs h ≡ a → ⊥) → IsPast next
     past_after other k is =
         let it : h ≡ k = by_id_apart next next_sound h k (same_id ∙ sym leased.id_is ∙ is) in
-        let was : attempt_of t.runs h ≡ a = leased.attempt_is in
-        let rises : attempt_of t.runs h ≤ attempt_of next.runs h = attempts_rise g t c s h in
+        let earlier = attempts_rise g t c s h in
+        let before : h ≡ earlier.was = by_id_apart t s h earlier.was (sym same_id ∙ earlier.same_id) in
+        let was : attempt_of t.runs earlier.was ≡ a = ap (attempt_of t.runs) (sym before) ∙ leased.attempt_is in
+        let rises : attempt_of t.runs earlier.was ≤ attempt_of next.runs h = earlier.no_later in
         let later : a < attempt_of next.runs h = omega (arith, rises, other, was) in
         subst (λ (i : Holder). a < attempt_of next.runs i) it later
 
     -- it has the lease as long as its run stays at the attempt, and then is past
-    leased_then : IsLeased next ⊎ IsPast next
-    leased_then =
+    kept_or_past : IsLeased next ⊎ IsPast next
+    kept_or_past =
         elim (cases_eq (attempt_of next.runs h) a) [
           | inl same ↦ inl (record {
             holder = h;
@@ -161,10 +172,62 @@ module _ (names : Names) (g : Group) (a : ℕ) (m : Holder) where
             of_it = leased.of_it;
             id_is = leased.id_is ∙ sym same_id;
             attempt_is = same;
-            had = step_had t c s leased.site leased.lease (same_leg same) leased.had;
+            had = step_had t c keeps s leased.site leased.lease (same_leg same) leased.had;
           })
           | inr other ↦ inr (past_after other)
         ]
+
+  -- where the first runs are dropped
+  module _ (k : ℕ) (t next : TableState) (s : IsSound t) (dropped : Dropped k t next) (leased : IsLeased t) where
+    of_it_down : (h : Holder) (p : LegSite) → IsOf h p → IsOf (moved_down k h) (leg_down k p)
+    of_it_down (Run r) p of_it = ap (λ n. n - k) of_it
+    of_it_down (Leg q) p of_it = ap (leg_down k) of_it
+
+    run_of_it : (h : Holder) (p : LegSite) → IsOf h p → run_of h ≡ p.run
+    run_of_it (Run r) p of_it = sym of_it
+    run_of_it (Leg q) p of_it = ap (λ (x : LegSite). x.run) (sym of_it)
+
+    -- it has the lease if its run is not dropped
+    stays_leased : k ≤ run_of leased.holder → IsLeased next
+    stays_leased le =
+        let h = leased.holder in
+        let back = moved_back k h le in
+        let its_run = run_of_it h leased.site leased.of_it in
+        record {
+          holder = moved_down k h;
+          site = leg_down k leased.site;
+          lease = leased.lease;
+          of_it = of_it_down h leased.site leased.of_it;
+          id_is = leased.id_is ∙ sym (same_by_id_then k t next dropped (moved_down k h) ∙ ap (by_id t) back);
+          attempt_is = attempt_then k t next dropped (moved_down k h) ∙ ap (attempt_of t.runs) back ∙ leased.attempt_is;
+          had = dropped_had k t next dropped (leg_down k leased.site)
+              ∙ ap (had_at t.runs) (leg_moved_back k leased.site (omega (arith, le, its_run))) ∙ leased.had;
+        }
+
+    -- else no holder has its id any more
+    gone_is_past : run_of leased.holder < k → IsPast next
+    gone_is_past lt i is =
+        let it : leased.holder ≡ moved k i =
+        by_id_apart t s leased.holder (moved k i) (sym leased.id_is ∙ is ∙ same_by_id_then k t next dropped i) in
+        let there = leb-true k (run_of (moved k i)) (moved_stays k i) in
+        let same : run_of leased.holder ≡ run_of (moved k i) = ap run_of it in
+        absurd (omega (arith, lt, there, same))
+
+    dropped_or_past : IsLeased next ⊎ IsPast next
+    dropped_or_past =
+        elim (nat_le k (run_of leased.holder)) as (λ b. nat_le k (run_of leased.holder) ≡ b → IsLeased next ⊎ IsPast next) [
+          | true ↦ λ le. inl (stays_leased (leb-true k (run_of leased.holder) le))
+          | false ↦ λ lt. inr (gone_is_past (leb-false k (run_of leased.holder) lt))
+        ] refl
+
+  leased_then : (t : TableState) (c : Command) → IsSound t → IsLeased t → IsLeased (stepped t c).table ⊎ IsPast (stepped t c).table
+  leased_then t c s leased =
+      elim (forget_or_not c) [
+        | inl forgets ↦
+            subst (λ (d : Command). IsLeased (stepped t d).table ⊎ IsPast (stepped t d).table) (sym forgets.1)
+            (dropped_or_past (forgettable t forgets.0) t (forgot t forgets.0).table s (forgot_drops t forgets.0) leased)
+        | inr keeps ↦ kept_or_past t c keeps s leased
+      ]
 
   -- nor does it arrive later
   never_comes : (t : TableState) (cs : List Command) (whole : List Move) → IsSound t → SoFar names g (λ k. false) t whole → IsLeased t

@@ -1,5 +1,5 @@
 -- What a list of commands leaves: a sound table, and leases that were answers to claims.
-use Rattle.std.specs.Prelude.{◌≡◌, ◌⊎◌, ℕ, zero, suc, ◌+◌, ◌-◌, List, [], ◌∷◌, ◌++◌, length, true, false, Option, Some, None}
+use Rattle.std.specs.Prelude.{◌≡◌, ◌⊎◌, ℕ, zero, suc, ◌+◌, List, [], ◌∷◌, ◌++◌, length, true, false, Option, Some, None}
 use Rattle.std.specs.Prelude.{option_map, option_and_then, slice_get, if◌then◌else◌, refl}
 use Rattle.std.specs.Option.{option_map_or}
 use Rattle.std.proofs.Common.{arith, ap, sym, ◌∙◌, inl, inr}
@@ -18,10 +18,11 @@ use Rattle.run_plan.specs.declared.reply.Reply.{Reply}
 use Rattle.run_plan.specs.declared.reply.Reply.TheVariants as reply
 use Rattle.table_model.specs.Runs.{changed_at, leg_at, run_at, with_job, with_leg, with_run, again, leased_leg}
 use Rattle.table_model.specs.Fitting.{first_fit, site_of_lease}
-use Rattle.table_model.specs.LegContext.{next_run}
+use Rattle.table_model.specs.Forgotten.{next_run}
 use Rattle.table_model.specs.Step.{after, replies, empty, at_rest_after, entered, unchanged, admission_answer, admitting, admitted}
 use Rattle.table_model.specs.GroupLaw.{Move}
-use Rattle.table_model.specs.TableState.{Step, TableState, runner_named, with_runner}
+use Rattle.table_model.specs.Step.{discharge_answer, discharging, forgettable, forgot}
+use Rattle.table_model.specs.TableState.{Step, TableState, index_of, last_id, runner_named, with_runner}
 use Rattle.table_model.specs.declared.sites.LegSite.{LegSite}
 use Rattle.table_model.specs.Settling.{leg_in_phase}
 use Rattle.table_model.specs.Sound.{IsSound}
@@ -43,12 +44,15 @@ use Rattle.run_table.proofs.Kept.{IsKept, kept_from_sound, kept_settles, lease_r
 use Rattle.table_model.proofs.Identity.{Identity, identity_at, identity_in, identity_of}
 use Rattle.table_model.proofs.JobKeeps.{leg_in, with_job_of, with_leg_of}
 use Rattle.table_model.proofs.LeaseReads.{place_or_another}
-use Rattle.table_model.proofs.LegReads.{had_at, had_in, had_in_job, had_from_leg}
+use Rattle.table_model.proofs.LegReads.{had_at, had_in, had_in_job, had_from_leg, leg_from_had}
 use Rattle.run_table.proofs.ReportKeeps.{loss_keeps, report_keeps}
 use Rattle.settling_laws.proofs.SettlingKeeps.{settling_settles}
 use Rattle.run_table.proofs.StepKeeps.{empty_is_sound, run_to_cancel, stepped_is_sound}
 use Rattle.table_model.proofs.StopKeeps.{same_reads as stopped_reads, stopped_run_settles}
+use Rattle.settling_laws.specs.Moved.{moved_leg}
+use Rattle.settling_laws.proofs.Dropped.{lease_dropped, run_dropped}
 use Rattle.table_laws.specs.Answered.{WasAnswered}
+use Rattle.table_laws.proofs.ForgetSteps.{IsNoForget, forgot_drops}
 use Rattle.table_model.specs.declared.holder.Holder.TheVariants.{Run}
 
 pub after_is_sound : (t : TableState) (commands : List Command) → IsSound t → IsSound (after t commands)
@@ -130,13 +134,15 @@ with_ended_keeps_identity lease o r runs =
 
 -- ---- what a step leaves
 
--- the lease of a leg existed before, or is the answer to this claim
+-- the lease is the answer to this claim
 record NewLease (t : TableState) (c : Command) (s : Step) (p : LegSite) (n : ℕ) : Type 0 where
   claim : Claimed
   claims : c ≡ command.Claim claim
   answer : s.reply ≡ reply.Lease (lease_at t.runs p n)
   identity : Identity
   identity_is : identity_at t.runs p.run ≡ Some identity
+
+-- in a step that forgets no run the lease of a leg existed before, or is new
 
 record Reads (t : TableState) (c : Command) (s : Step) : Type 0 where
   same_identity : (r : ℕ) (x : Identity) → identity_at t.runs r ≡ Some x → identity_at s.table.runs r ≡ Some x
@@ -168,15 +174,15 @@ admit_reads t event s =
     (λ none.
     let arrival = entered_settles t event (kept_from_sound t s).fit in
     rest_reads t (command.Admit event) (entered t event).moves (record t { runs = (entered t event).runs })
-    (reply.Created (length t.runs + 1)) (entered_keeps t event (kept_from_sound t s) none)
+    (reply.Created (last_id t + 1)) (entered_keeps t event (kept_from_sound t s) none)
     (λ i x e. arrival.stay.same_identity i ∙ identities_stay i x e)
-    (λ p n e. inl (sym (same_reads t.runs event (λ z. z.lease) p) ∙ sym (arrival.same_had p) ∙ e)))
+    (λ p n e. inl (sym (same_reads t.forgotten t.runs event (λ z. z.lease) p) ∙ sym (arrival.same_had p) ∙ e)))
   where
-    identities_stay : (i : ℕ) (x : Identity) → identity_at t.runs i ≡ Some x → identity_at (t.runs ++ next_run t.runs event ∷ []) i ≡ Some x
+    identities_stay : (i : ℕ) (x : Identity) → identity_at t.runs i ≡ Some x → identity_at (t.runs ++ next_run t.forgotten t.runs event ∷ []) i ≡ Some x
     identities_stay i x e =
         elim (cases_eq i (length t.runs)) [
           | inl same ↦ absurd (none-some x (sym (ap identity_in (slice_get_past t.runs i (omega (arith, same)))) ∙ e))
-          | inr other ↦ ap identity_in (before_the_end t.runs (next_run t.runs event) i other) ∙ e
+          | inr other ↦ ap identity_in (before_the_end t.runs (next_run t.forgotten t.runs event) i other) ∙ e
         ]
 
 leasing_reads : (t : TableState) (claim : Claimed) (p : LegSite) → IsSound t → claim_answer t claim ≡ None
@@ -188,7 +194,7 @@ leasing_reads t claim p s none fit =
     let changes = had_changes t.runs p ready.leg_of (λ _. leased_leg lease) ready.is in
     let at = leg_in t.runs p ready.leg_of ready.is in
     rest_reads t (command.Claim claim) []
-    (record {
+    (record t {
       last_lease = lease;
       runs = with_leg p (λ _. leased_leg lease) t.runs;
       runners =
@@ -236,9 +242,9 @@ cancel_reads t id s =
     either_reads t (command.Cancel id) (cancel_answer t id) (cancelling t id)
     (λ none.
     let found = run_to_cancel t id none in
-    let stop = stopped_run_settles t.runs (kept_from_sound t s).fit (id - 1) found.0 found.1 in
-    let next = with_run (id - 1) stopped_run t.runs in
-    rest_reads t (command.Cancel id) (stop_holder (Run (id - 1)) t.runs).moves (record t { runs = next }) reply.Ok
+    let stop = stopped_run_settles t.runs (kept_from_sound t s).fit (index_of t id) found.0 found.1 in
+    let next = with_run (index_of t id) stopped_run t.runs in
+    rest_reads t (command.Cancel id) (stop_holder (Run (index_of t id)) t.runs).moves (record t { runs = next }) reply.Ok
     (kept_settles t next (kept_from_sound t s) stop)
     (λ i x e. stop.stay.same_identity i ∙ e) (λ p n e. inl (sym (stop.same_had p) ∙ e)))
 
@@ -261,7 +267,7 @@ rerun_reads t requested s =
     either_reads t (command.Rerun requested) (rerun_answer t requested) (rerunning t requested)
     (λ none.
     let begins = begins_again t requested none in
-    let r = requested.run - 1 in
+    let r = index_of t requested.run in
     let kept = kept_from_sound t s in
     let entry = entered_again_settles t r kept.fit in
     rest_reads t (command.Rerun requested) (entered_again t r).moves (record t { runs = (entered_again t r).runs }) (reply.Again requested)
@@ -290,50 +296,95 @@ loss_reads t name s =
           ] refl
     ] refl
 
-step_reads : (t : TableState) (c : Command) → IsSound t → Reads t c (stepped t c)
-step_reads t (command.Admit event) s = admit_reads t event s
-step_reads t (command.Claim claim) s =
+step_reads : (t : TableState) (c : Command) → IsNoForget c → IsSound t → Reads t c (stepped t c)
+step_reads t (command.Admit event) other s = admit_reads t event s
+step_reads t (command.Claim claim) other s =
     either_reads t (command.Claim claim) (claim_answer t claim) (claiming t claim) (claiming_reads t claim s)
-step_reads t (command.Done report) s = report_reads t report s
-step_reads t (command.Beat beat) s = unchanged_reads t (command.Beat beat) (stepped t (command.Beat beat)).reply
-step_reads t (command.Cancel id) s = cancel_reads t id s
-step_reads t (command.Lost name) s = loss_reads t name s
-step_reads t (command.Fetch id) s = unchanged_reads t (command.Fetch id) (stepped t (command.Fetch id)).reply
-step_reads t (command.Look id) s = unchanged_reads t (command.Look id) (stepped t (command.Look id)).reply
-step_reads t (command.Rerun requested) s = rerun_reads t requested s
+step_reads t (command.Done report) other s = report_reads t report s
+step_reads t (command.Beat beat) other s = unchanged_reads t (command.Beat beat) (stepped t (command.Beat beat)).reply
+step_reads t (command.Cancel id) other s = cancel_reads t id s
+step_reads t (command.Lost name) other s = loss_reads t name s
+step_reads t (command.Fetch id) other s = unchanged_reads t (command.Fetch id) (stepped t (command.Fetch id)).reply
+step_reads t (command.Look id) other s = unchanged_reads t (command.Look id) (stepped t (command.Look id)).reply
+step_reads t (command.Rerun requested) other s = rerun_reads t requested s
+step_reads t (command.Forget id) other s = absurd other
+step_reads t (command.Discharge name) other s =
+    either_reads t (command.Discharge name) (discharge_answer t name) (discharging t name)
+    (λ none. record { same_identity = (λ i x e. e); had_before = (λ p n e. inl e) })
 
--- ---- what a list of commands leaves
+-- ---- where a leg with a lease stood before
 
-identities_after : (t : TableState) (commands : List Command) → IsSound t → (r : ℕ) (x : Identity) → identity_at t.runs r ≡ Some x
-    → identity_at (after t commands).runs r ≡ Some x
-identities_after t [] s r x e = e
-identities_after t (c ∷ cs) s r x e =
-    identities_after (stepped t c).table cs (stepped_is_sound t c s) r x ((step_reads t c s).same_identity r x e)
+-- the leg at this site in the second table had the lease in the first, and a runner learns the same about it
+record Had (t next : TableState) (p : LegSite) (n : ℕ) : Type 0 where
+  site : LegSite
+  had : had_at t.runs site ≡ Some n
+  told : lease_at t.runs site n ≡ lease_at next.runs p n
+
+-- a claim was answered with the lease
+record IsAnswer (c : Command) (s : Step) (p : LegSite) (n : ℕ) : Type 0 where
+  claim : Claimed
+  claims : c ≡ command.Claim claim
+  answer : s.reply ≡ reply.Lease (lease_at s.table.runs p n)
 
 -- what a runner learns about a leg follows from the run's identity
 same_lease : (runs next : List RunState) (p : LegSite) (n : ℕ) (x : Identity) → identity_at runs p.run ≡ Some x
     → identity_at next p.run ≡ Some x → lease_at runs p n ≡ lease_at next p n
 same_lease runs next p n x before now = lease_reply_same runs next p n (now ∙ sym before)
 
+its_identity : (runs : List RunState) (p : LegSite) (n : ℕ) → had_at runs p ≡ Some n → (x : Identity) × (identity_at runs p.run ≡ Some x)
+its_identity runs p n e =
+    let from = leg_from_had runs p n e in
+    let place = (leg_in runs p from.value from.is).place in (identity_of place.run, ap identity_in place.run_is)
+
+kept_had : (t : TableState) (c : Command) (s : Step) → Reads t c s → (p : LegSite) (n : ℕ) → had_at s.table.runs p ≡ Some n
+    → Had t s.table p n ⊎ IsAnswer c s p n
+kept_had t c s reads p n e =
+    elim (reads.had_before p n e) [
+      | inl had ↦
+          let (x, is) = its_identity t.runs p n had in
+          inl (record {
+            site = p;
+            had = had;
+            told = same_lease t.runs s.table.runs p n x is (reads.same_identity p.run x is);
+          })
+      | inr new ↦
+          let later = reads.same_identity p.run new.identity new.identity_is in
+          inr (record {
+            claim = new.claim;
+            claims = new.claims;
+            answer = new.answer ∙ ap (λ l. reply.Lease l) (same_lease t.runs s.table.runs p n new.identity new.identity_is later);
+          })
+    ]
+
+-- where the first runs are dropped
+forgot_had : (t : TableState) (id : ℕ) (p : LegSite) (n : ℕ) → had_at (forgot t id).table.runs p ≡ Some n → Had t (forgot t id).table p n
+forgot_had t id p n e =
+    let k = forgettable t id in
+    let runs_are = (forgot_drops t id).runs in
+    record {
+      site = moved_leg k p;
+      had = sym (ap (option_and_then (λ (v : RunState). had_in v p.job p.leg)) (run_dropped k t.runs p.run))
+          ∙ sym (ap (λ runs. had_at runs p) runs_are) ∙ e;
+      told = sym (ap (λ runs. lease_at runs p n) runs_are ∙ lease_dropped k t.runs p n);
+    }
+
+step_had_before : (t : TableState) (c : Command) → IsSound t → (p : LegSite) (n : ℕ) → had_at (stepped t c).table.runs p ≡ Some n
+    → Had t (stepped t c).table p n ⊎ IsAnswer c (stepped t c) p n
+step_had_before t (command.Forget id) s p n e = inl (forgot_had t id p n e)
+step_had_before t c s p n e = kept_had t c (stepped t c) (step_reads t c tt s) p n e
+
+-- ---- what a list of commands leaves
+
 leased_from : (t : TableState) (commands : List Command) → IsSound t → (p : LegSite) (n : ℕ) → had_at (after t commands).runs p ≡ Some n
-    → (had_at t.runs p ≡ Some n) ⊎ WasAnswered commands (replies t commands) (lease_at (after t commands).runs p n)
-leased_from t [] s p n e = inl e
+    → Had t (after t commands) p n ⊎ WasAnswered commands (replies t commands) (lease_at (after t commands).runs p n)
+leased_from t [] s p n e = inl (record { site = p; had = e; told = refl })
 leased_from t (c ∷ cs) s p n e =
-    let next = (stepped t c).table in
     let sound = stepped_is_sound t c s in
-    let reads = step_reads t c s in
-    elim (leased_from next cs sound p n e) [
+    elim (leased_from (stepped t c).table cs sound p n e) [
       | inr w ↦ inr (suc w.0, w.1, w.2, w.3)
-      | inl had ↦ elim (reads.had_before p n had) [
-        | inl before ↦ inl before
-        | inr new ↦
-            let later = identities_after next cs sound p.run new.identity (reads.same_identity p.run new.identity new.identity_is) in
-            inr (
-              0,
-              new.claim,
-              ap Some new.claims,
-              ap Some (new.answer ∙ ap (λ l. reply.Lease l) (same_lease t.runs (after next cs).runs p n new.identity new.identity_is later)),
-            )
+      | inl later ↦ elim (step_had_before t c s later.site n later.had) [
+        | inl before ↦ inl (record { site = before.site; had = before.had; told = before.told ∙ later.told })
+        | inr new ↦ inr (0, new.claim, ap Some new.claims, ap Some (new.answer ∙ ap (λ l. reply.Lease l) later.told))
       ]
     ]
 
@@ -341,6 +392,6 @@ pub leased_by_a_claim : (commands : List Command) (p : LegSite) (leg : LegState)
     → leg.lease ≡ Some n → WasAnswered commands (replies empty commands) (lease_at (after empty commands).runs p n)
 leased_by_a_claim commands p leg n at is =
     elim (leased_from empty commands empty_is_sound p n (had_from_leg (after empty commands).runs p leg at ∙ is)) [
-      | inl had ↦ absurd (none-some n had)
+      | inl before ↦ absurd (none-some n before.had)
       | inr w ↦ w
     ]

@@ -1,63 +1,18 @@
--- What a table remembers about a delivery, and about a runner's last command, does not change, and both are answered from it again.
-use Rattle.std.proofs.Common.{◌≡◌, ℕ, ◌+◌, true, List, [], ◌∷◌, refl, sym, ◌∙◌, ap, subst}
-use Rattle.std.specs.Prelude.{Option, Some, None, option_map}
-use Rattle.std.proofs.lemmas.Option.{same_Some}
-use Rattle.definitions.specs.SmallText.{Admitted}
+-- What a table remembers about a runner's last command does not change until a later one is carried out or the runner is discharged, and the
+-- command is answered from it again.
+use Rattle.std.proofs.Common.{◌≡◌, ℕ, true, List, [], ◌∷◌, refl, sym, ◌∙◌, ap, subst}
 use Rattle.run_plan.specs.declared.command.Command.{Command}
 use Rattle.run_plan.specs.declared.command.Command.TheVariants as command
 use Rattle.run_plan.specs.declared.last_command.LastCommand.{LastCommand}
 use Rattle.run_plan.specs.declared.last_command.LastCommand.TheVariants as last
 use Rattle.run_plan.specs.declared.reply.Reply.{Reply}
-use Rattle.run_plan.specs.declared.reply.Reply.TheVariants as reply
 use Rattle.run_plan.proofs.SameCommands.{claims_decide, reports_decide}
 use Rattle.table_model.specs.Step.{after, replies, step, stepped}
 use Rattle.table_model.specs.TableState.{TableState}
 use Rattle.table_laws.specs.ExactlyOnce.{HasNumber, IsRefused}
-use Rattle.table_laws.specs.Remembered.{AreNoLaterNumbers, IsNoLaterNumber, KnowsDelivery, LastCommandIs, kept_command}
-use Rattle.table_laws.proofs.Deliveries.{Keeps, after_keeps, created_again, created_at, place_of, place_stays, step_keeps}
-use Rattle.table_laws.proofs.KeptReplies.{HasKept, has_step, test_of, numbered_again, numbered_has}
-
--- ---- deliveries
-
--- the index of the run
-place_known : (t : TableState) (delivery : List ℕ) (run : ℕ) → KnowsDelivery t delivery run
-    → (i : ℕ) × (run ≡ i + 1) × (place_of delivery t ≡ Some i)
-place_known t delivery run knows = at (place_of delivery t) refl knows
-  where
-    at : (o : Option ℕ) → place_of delivery t ≡ o → option_map (λ i. i + 1) o ≡ Some run
-        → (i : ℕ) × (run ≡ i + 1) × (place_of delivery t ≡ Some i)
-    at None is e = cc
-    at (Some i) is e = (i, sym (same_Some (i + 1) run e), is)
-
-known_by_place : (t : TableState) (delivery : List ℕ) (run i : ℕ) → run ≡ i + 1 → place_of delivery t ≡ Some i
-    → KnowsDelivery t delivery run
-known_by_place t delivery run i id is = ap (option_map (λ k. k + 1)) is ∙ ap (λ n. Some n) (sym id)
-
-known_in : (t next : TableState) (delivery : List ℕ) (run : ℕ) → Keeps t next → KnowsDelivery t delivery run
-    → KnowsDelivery next delivery run
-known_in t next delivery run keeps knows =
-    let at = place_known t delivery run knows in
-    known_by_place next delivery run at.0 at.1 (place_stays delivery t next at.0 keeps at.2)
-
-pub created_is_known : (t : TableState) (event : Admitted) (run : ℕ) → (stepped t (command.Admit event)).reply ≡ reply.Created run
-    → KnowsDelivery (stepped t (command.Admit event)).table event.delivery run
-created_is_known t event run given =
-    let at = created_at t event run given in known_by_place (stepped t (command.Admit event)).table event.delivery run at.0 at.1 at.2
-
-pub known_after_step : (t : TableState) (c : Command) (delivery : List ℕ) (run : ℕ) → KnowsDelivery t delivery run
-    → KnowsDelivery (stepped t c).table delivery run
-known_after_step t c delivery run knows = known_in t (stepped t c).table delivery run (step_keeps t c) knows
-
-pub known_after : (t : TableState) (later : List Command) (delivery : List ℕ) (run : ℕ) → KnowsDelivery t delivery run
-    → KnowsDelivery (after t later) delivery run
-known_after t later delivery run knows = known_in t (after t later) delivery run (after_keeps t later) knows
-
-pub known_is_answered : (t : TableState) (event : Admitted) (run : ℕ) → KnowsDelivery t event.delivery run
-    → step t (command.Admit event) ≡ (t, reply.Created run)
-known_is_answered t event run knows =
-    let at = place_known t event.delivery run knows in created_again t event at.0 at.2 ∙ ap (λ n. (t, reply.Created n)) (sym at.1)
-
--- ---- last commands
+use Rattle.table_laws.specs.Remembered.{AreNoDischarges, AreNoLaterNumbers, IsNoDischarge, IsNoLaterNumber, LastCommandIs, kept_command}
+use Rattle.table_laws.specs.Remembered.{reply_then}
+use Rattle.table_laws.proofs.KeptReplies.{HasKept, has_first, has_on, has_step, test_of, tests_ignore, numbered_again, numbered_has}
 
 -- a kept command that passes the test of a command is that command
 passing_is : (c : Command) (name : List ℕ) (number : ℕ) (l : LastCommand) → HasNumber c name number → test_of c l ≡ true → kept_command l ≡ c
@@ -88,8 +43,8 @@ module _ (c : Command) (name : List ℕ) (number : ℕ) (given : Reply) (numbere
     keeps = is.kept;
   }
 
-  last_of : (t : TableState) → HasKept t name number (test_of c) given → LastCommandIs t name c given
-  last_of t has = record {
+  last_of : (t : TableState) (kept : Reply) → HasKept t name number (test_of c) kept → LastCommandIs t name c kept
+  last_of t kept has = record {
     runner = has.runner;
     known = has.found;
     last_is = passing_is c name number has.runner.last numbered has.passes;
@@ -97,25 +52,33 @@ module _ (c : Command) (name : List ℕ) (number : ℕ) (given : Reply) (numbere
     kept = has.keeps;
   }
 
-  has_on : (t : TableState) (later : List Command) → AreNoLaterNumbers name number later (replies t later)
-      → HasKept t name number (test_of c) given → HasKept (after t later) name number (test_of c) given
-  has_on t [] no_later has = has
-  has_on t (d ∷ later) no_later has =
-      has_on (stepped t d).table later no_later.1 (has_step name number (test_of c) given t d no_later.0 has)
+  has_last : (t : TableState) (kept : Reply) (later : List Command) → AreNoLaterNumbers name number later (replies t later)
+      → AreNoDischarges name later (replies t later) → HasKept t name number (test_of c) kept
+      → HasKept (after t later) name number (test_of c) (reply_then t (after t later) kept)
+  has_last t kept [] no_later no_discharge has = has_first name number (test_of c) (tests_ignore c) t kept has
+  has_last t kept (d ∷ later) no_later no_discharge has =
+      let next = (stepped t d).table in
+      has_on name number (test_of c) (tests_ignore c) t kept d later
+      (has_last next (reply_then t next kept) later no_later.1 no_discharge.1
+      (has_step name number (test_of c) (tests_ignore c) t kept d no_later.0 no_discharge.0 has))
 
   pub last_after_step : (t : TableState) (d : Command) → LastCommandIs t name c given
-      → IsNoLaterNumber name number d (stepped t d).reply → LastCommandIs (stepped t d).table name c given
-  last_after_step t d is no_later =
-      last_of (stepped t d).table (has_step name number (test_of c) given t d no_later (has_of t is))
+      → IsNoLaterNumber name number d (stepped t d).reply → IsNoDischarge name d (stepped t d).reply
+      → LastCommandIs (stepped t d).table name c (reply_then t (stepped t d).table given)
+  last_after_step t d is no_later no_discharge =
+      let next = (stepped t d).table in
+      last_of next (reply_then t next given) (has_step name number (test_of c) (tests_ignore c) t given d no_later no_discharge (has_of t is))
 
   pub last_after : (t : TableState) (later : List Command) → LastCommandIs t name c given
-      → AreNoLaterNumbers name number later (replies t later) → LastCommandIs (after t later) name c given
-  last_after t later is no_later = last_of (after t later) (has_on t later no_later (has_of t is))
+      → AreNoLaterNumbers name number later (replies t later) → AreNoDischarges name later (replies t later)
+      → LastCommandIs (after t later) name c (reply_then t (after t later) given)
+  last_after t later is no_later no_discharge =
+      last_of (after t later) (reply_then t (after t later) given) (has_last t given later no_later no_discharge (has_of t is))
 
 pub answered_is_last : (t : TableState) (c : Command) (name : List ℕ) (number : ℕ) → HasNumber c name number
     → (IsRefused (stepped t c).reply → ⊥) → LastCommandIs (stepped t c).table name c (stepped t c).reply
 answered_is_last t c name number numbered taken =
-    last_of c name number (stepped t c).reply numbered (stepped t c).table (numbered_has t c name number numbered taken)
+    last_of c name number (stepped t c).reply numbered (stepped t c).table (stepped t c).reply (numbered_has t c name number numbered taken)
 
 pub last_is_answered : (t : TableState) (c : Command) (name : List ℕ) (given : Reply) → LastCommandIs t name c given → step t c ≡ (t, given)
 last_is_answered t c name given is =

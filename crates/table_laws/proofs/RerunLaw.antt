@@ -1,6 +1,6 @@
 -- The step in which a run begins again preserves the law of every group. The moves of its attempt before are dropped, and it arrives as a
 -- holder with another name.
-use Rattle.std.specs.Prelude.{◌≡◌, ℕ, ◌+◌, ◌-◌, ◌≤◌, List, [], ◌++◌, ◌&&◌, Bool, true, false, Some, None}
+use Rattle.std.specs.Prelude.{◌≡◌, ℕ, ◌+◌, ◌≤◌, List, [], ◌++◌, ◌&&◌, Bool, true, false, Some, None}
 use Rattle.std.specs.Prelude.{refl}
 use Rattle.std.specs.Option.{option_map_or}
 use Rattle.std.proofs.Common.{arith, ap, ap₂, inl, inr, sym, ◌∙◌, subst, append_assoc}
@@ -18,7 +18,7 @@ use Rattle.table_model.proofs.RunFits.{RunsFit}
 use Rattle.settling_laws.proofs.OneEach.{IsOneOf, one_that_waits}
 use Rattle.table_model.specs.Sound.{IsSound}
 use Rattle.table_model.specs.Step.{entered_again, rerunning}
-use Rattle.table_model.specs.TableState.{TableState}
+use Rattle.table_model.specs.TableState.{TableState, index_of}
 use Rattle.run_table.proofs.BeginsAgain.{BeginsAgain}
 use Rattle.run_table.proofs.EnteredAgain.{again_fits, again_waits, beside_again, entered_again_one_each, group_beside}
 use Rattle.run_table.proofs.Kept.{kept_from_sound}
@@ -44,10 +44,10 @@ use Rattle.table_model.specs.declared.holder.Holder.{Holder}
 use Rattle.table_model.specs.declared.holder.Holder.TheVariants.{Run}
 
 module _ (names : Names) (g : Group) (requests : Holder → Bool) (t : TableState) (requested : Attempt) (s : IsSound t)
-    (begins : BeginsAgain t.runs (requested.run - 1) requested.attempt) (whole : List Move) (so_far : SoFar names g requests t whole)
+    (begins : BeginsAgain t.runs (index_of t requested.run) requested.attempt) (whole : List Move) (so_far : SoFar names g requests t whole)
     (sound_then : IsSound (rerunning t requested).table) where
   abbrev r : ℕ
-  r = requested.run - 1
+  r = index_of t requested.run
 
   abbrev x : RunState
   x = begins.was
@@ -180,7 +180,7 @@ module _ (names : Names) (g : Group) (requests : Holder → Bool) (t : TableStat
   -- ---- the names
 
   same_ids : (h : Holder) → by_id next h ≡ by_id t h
-  same_ids = same_by_id t next s sound_then
+  same_ids = same_by_id t next s sound_then refl
 
   agrees_then : Agrees (name_in names next) start whole
   agrees_then =

@@ -8,13 +8,15 @@ use Rattle.table_model.specs.GroupLaw.{has_arrived, has_started, latest, Move}
 use Rattle.table_model.specs.Groups.{holds, is_in, waits}
 use Rattle.table_model.specs.Holders.{run_of}
 use Rattle.table_model.specs.TableState.{TableState}
+use Rattle.settling_laws.specs.Moved.{moved}
+use Rattle.settling_laws.proofs.MovedHolders.{moved_down}
 use Rattle.table_laws.specs.Names.{Names, attempt_of, by_id, name_in, renamed}
 use Rattle.table_laws.proofs.Agrees.{Agrees}
 use Rattle.table_laws.proofs.Forgotten.{forgets, latest_kept}
 use Rattle.table_laws.proofs.HistoryNames.{AreNamed, agrees_by, later_is_new}
 use Rattle.table_laws.proofs.HistoryStep.{SoFar, arrived_in_it}
 use Rattle.table_laws.proofs.HolderStatus.{Fits, Status, is_waiting, status, waits_as}
-use Rattle.table_laws.proofs.HoldersMoved.{fits_down, moved, moved_down, moved_stays, own_remaining, remaining, remaining_agree, stays}
+use Rattle.table_laws.proofs.HoldersMoved.{fits_down, moved_stays, own_remaining, remaining, remaining_agree, stays}
 use Rattle.table_laws.proofs.OwnMoves.{arrived_by_own, of_group, own, own_of_group, started_by_own}
 use Rattle.table_laws.proofs.PendingSoFar.{idle_so_far, pending_is_newest, settled_by_now}
 use Rattle.table_laws.proofs.Through.{agrees_through}

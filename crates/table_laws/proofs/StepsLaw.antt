@@ -1,5 +1,5 @@
 -- Each step preserves the law of every group.
-use Rattle.std.specs.Prelude.{◌≡◌, ◌⊎◌, ℕ, ◌+◌, ◌-◌, List, [], ◌∷◌, ◌++◌, length, Bool, true, false, Option, Some, None}
+use Rattle.std.specs.Prelude.{◌≡◌, ◌⊎◌, ℕ, ◌+◌, List, [], ◌∷◌, ◌++◌, length, Bool, true, false, Option, Some, None}
 use Rattle.std.specs.Prelude.{map, option_map}
 use Rattle.std.specs.Prelude.{slice_get, if◌then◌else◌, refl}
 use Rattle.std.specs.Option.{option_map_or}
@@ -23,18 +23,18 @@ use Rattle.wf_value.specs.declared.code.Code.TheVariants.{LeaseNotHeld, NoRunner
 use Rattle.table_model.specs.Fitting.{first_fit, has_lease, site_of_lease, is_at_work}
 use Rattle.table_model.specs.Groups.{cancels_in_progress, HasOneEach, holds, is_in, leg_holds}
 use Rattle.table_model.specs.GroupLaw.{Move, Transition, without_moves}
-use Rattle.table_model.specs.TableState.{Step, RunnerState, TableState, runner_named, with_runner}
+use Rattle.table_model.specs.TableState.{Step, RunnerState, TableState, index_of, last_id, runner_named, with_runner}
 use Rattle.table_model.specs.Runs.{job_at, leg_at, leg_sites, run_at, with_job, with_leg, leg_has_ended, leg_in_phase, RunState}
 use Rattle.table_model.specs.declared.sites.LegSite.{LegSite}
 use Rattle.table_model.specs.Settling.{remaining_phases, settled, settling}
 use Rattle.table_model.specs.Sound.{IsSound}
 use Rattle.table_model.specs.Step.{admission_answer, admitted, admitting, at_rest_after, cancel_answer, cancelled, serving_nothing, stepped}
 use Rattle.table_model.specs.Runs.{blocked_job, leased_leg}
-use Rattle.table_model.specs.LegContext.{next_run}
+use Rattle.table_model.specs.Forgotten.{ForgottenRuns, next_run}
 use Rattle.table_model.specs.Step.{cancelling, claim_answer, claimed, claiming, claiming_runner, entered, kept_lease_at, lease_at, leasing, losing, lost}
 use Rattle.table_model.specs.Stops.{lease_end_moves, with_ended, end_moves, legs_stop_moves, others_stop_moves, stop_holder}
 use Rattle.table_model.specs.Step.{refused, released, report_answer, reported, reporting, reporting_runner, rerun, rerun_answer, rerunning}
-use Rattle.table_model.specs.Step.{unchanged}
+use Rattle.table_model.specs.Step.{discharge_answer, discharging, forgettable, forgot, unchanged}
 use Rattle.table_model.specs.Stops.{after_end, outcome_of_loss, stops_others, with_stopped_legs}
 use Rattle.table_model.specs.declared.phases.LegPhase.{LegPhase}
 use Rattle.table_model.specs.declared.phases.LegPhase.TheVariants as leg
@@ -58,7 +58,9 @@ use Rattle.run_table.proofs.RunnerPut.{stood}
 use Rattle.table_model.proofs.Settles.{StayFit}
 use Rattle.settling_laws.proofs.ArrivalKeeps.{itself}
 use Rattle.settling_laws.proofs.SettlingKeeps.{settling_settles}
+use Rattle.settling_laws.proofs.HaveEnded.{HaveEnded}
 use Rattle.table_laws.proofs.ChangesTold.{leg_tells, legs_stop_tells, only_none, only_one}
+use Rattle.table_laws.proofs.ForgetSteps.{Dropped, forgot_drops, forgot_ended, forgot_is_silent}
 use Rattle.table_laws.proofs.GroupsKept.{Grows, grows_not, grows_on, new_run_grows, past_the_end, stays_grows}
 use Rattle.table_laws.proofs.HolderStatus.{Goes, Status, ends_at_once, goes_over, goes_to_arrive, leg_status, status, status_by}
 use Rattle.table_laws.proofs.HolderStatus.{status_by_run, status_in_job, status_in_run, status_of_leg, status_of_run}
@@ -83,13 +85,13 @@ no_leg_yet j l event = ap (status_by (status_in_job l)) (slice_get-map (λ _. bl
     none None = refl
     none (Some planned) = refl
 
-module _ (runs : List RunState) (event : Admitted) where
+module _ (forgotten : ForgottenRuns) (runs : List RunState) (event : Admitted) where
   new_is_unseen : status runs (Run (length runs)) ≡ Status.unarrived
   new_is_unseen = ap (status_by status_of_run) (past_the_end runs (length runs) refl)
 
-  new_run_tells : Tells runs (record { runs = runs ++ next_run runs event ∷ []; moves = Move.arrive (Run (length runs)) ∷ [] })
+  new_run_tells : Tells runs (record { runs = runs ++ next_run forgotten runs event ∷ []; moves = Move.arrive (Run (length runs)) ∷ [] })
   new_run_tells (Run r) =
-      let next = runs ++ next_run runs event ∷ [] in
+      let next = runs ++ next_run forgotten runs event ∷ [] in
       let n = Run (length runs) in
       let arrives : List Move = Move.arrive n ∷ [] in
       elim (cases_eq r (length runs)) [
@@ -99,18 +101,18 @@ module _ (runs : List RunState) (event : Admitted) where
             (goes_by n (status runs n) (status next n) (own n arrives) arrives (sym (ap (λ b. if b then arrives else []) (itself n)))
             (subst (λ (s : Status). Goes n s arrives (status next n)) (sym new_is_unseen)
             (subst (λ (s : Status). Goes n Status.unarrived arrives s) (sym (ap (status_by status_of_run) (at_the_end runs
-            (next_run runs event))))
+            (next_run forgotten runs event))))
             (goes_to_arrive n))))
         | inr other ↦
             let h = Run r in
             goes_by h (status runs h) (status next h) (own h arrives) [] (sym (only_one n (Move.arrive n) refl h (λ e. other (run_is r e))))
-            (goes_same h (status runs h) (status next h) (ap (status_by status_of_run) (before_the_end runs (next_run runs event) r other)))
+            (goes_same h (status runs h) (status next h) (ap (status_by status_of_run) (before_the_end runs (next_run forgotten runs event) r other)))
       ]
     where
       run_is : (r : ℕ) → Run r ≡ Run (length runs) → r ≡ length runs
       run_is r e = cc
   new_run_tells (Leg q) =
-      let next = runs ++ next_run runs event ∷ [] in
+      let next = runs ++ next_run forgotten runs event ∷ [] in
       let n = Run (length runs) in
       let h = Leg q in
       let arrives : List Move = Move.arrive n ∷ [] in
@@ -118,15 +120,15 @@ module _ (runs : List RunState) (event : Admitted) where
       (goes_same h (status runs h) (status next h) (status_by_run next q ∙ same_leg q ∙ sym (status_by_run runs q)))
     where
       same_leg : (q : LegSite)
-          → status_by (status_in_run q.job q.leg) (run_at (runs ++ next_run runs event ∷ []) q.run) ≡ status_by (status_in_run q.job q.leg)
+          → status_by (status_in_run q.job q.leg) (run_at (runs ++ next_run forgotten runs event ∷ []) q.run) ≡ status_by (status_in_run q.job q.leg)
           (run_at runs q.run)
       same_leg q =
           let of_leg = status_by (status_in_run q.job q.leg) in
           elim (cases_eq q.run (length runs)) [
             | inl same ↦
-                ap (λ (k : ℕ). of_leg (run_at (runs ++ next_run runs event ∷ []) k)) same ∙ ap of_leg (at_the_end runs (next_run runs event))
+                ap (λ (k : ℕ). of_leg (run_at (runs ++ next_run forgotten runs event ∷ []) k)) same ∙ ap of_leg (at_the_end runs (next_run forgotten runs event))
                 ∙ no_leg_yet q.job q.leg event ∙ sym (ap of_leg (past_the_end runs q.run same))
-            | inr other ↦ ap of_leg (before_the_end runs (next_run runs event) q.run other)
+            | inr other ↦ ap of_leg (before_the_end runs (next_run forgotten runs event) q.run other)
           ]
 
 -- ---- the leg with a lease ends
@@ -231,24 +233,41 @@ module _ (g : Group) where
   pub record RunsAgain (t : TableState) (c : Command) (s : Step) : Type 0 where
     pub requested : Attempt
     pub command_is : c ≡ command.Rerun requested
-    pub begins : BeginsAgain t.runs (requested.run - 1) requested.attempt
+    pub begins : BeginsAgain t.runs (index_of t requested.run) requested.attempt
     pub is : s ≡ rerunning t requested
 
-  -- a step in which no run begins again
+  -- a step in which the first runs, which have ended, are dropped
+  pub record Forgets (t : TableState) (s : Step) : Type 0 where
+    pub gone : ℕ
+    pub ended : HaveEnded gone t.runs
+    pub dropped : Dropped gone t s.table
+    pub silent : s.moves ≡ []
+
+  -- a step in which no run begins again and none is dropped
   pub record StepSays (t : TableState) (s : Step) : Type 0 where
+    pub same_forgotten : s.table.forgotten.through ≡ t.forgotten.through
     pub grows : Grows t.runs s.table.runs
     pub goes_on : GoesOnTo s.table.runs t.runs (record { runs = s.table.runs; moves = s.moves })
 
+  abbrev pub Says : TableState → Command → Step → Type 0
+  Says t c s = StepSays t s ⊎ (RunsAgain t c s ⊎ Forgets t s)
+
   unchanged_says : (t : TableState) (r : Reply) → StepSays t (unchanged t r)
-  unchanged_says t r = record { grows = grows_not t.runs; goes_on = (λ cancels requests. goes_on_still (is_in t.runs g) cancels t.runs) }
+  unchanged_says t r = record {
+    same_forgotten = refl;
+    grows = grows_not t.runs;
+    goes_on = (λ cancels requests. goes_on_still (is_in t.runs g) cancels t.runs);
+  }
 
   -- a change followed by settling
-  rest_says : (t u : TableState) (moves : List Move) (r : Reply) → RunsFit u.runs → HasOneEach u.runs → Grows t.runs u.runs
+  rest_says : (t u : TableState) (moves : List Move) (r : Reply) → u.forgotten.through ≡ t.forgotten.through → RunsFit u.runs
+      → HasOneEach u.runs → Grows t.runs u.runs
       → GoesOnTo (settled u.runs) t.runs (record { runs = u.runs; moves = moves })
       → StepSays t (at_rest_after moves u r)
-  rest_says t u moves r fit each grows first =
+  rest_says t u moves r same fit each grows first =
       let rests = stays_grows u.runs (settled u.runs) (settling_settles u.runs fit).stay in
       record {
+        same_forgotten = same;
         grows = grows_on t.runs u.runs (settled u.runs) grows rests;
         goes_on = (λ cancels requests.
             goes_on_then (is_in (settled u.runs) g) cancels t.runs (record { runs = u.runs; moves = moves }) settling (first cancels requests)
@@ -264,19 +283,19 @@ module _ (g : Group) where
   admit_says t event s =
       either_says t (admission_answer t event) (admitting t event) (λ none.
       let kept = kept_from_sound t s in
-      let now = t.runs ++ next_run t.runs event ∷ [] in
+      let now = t.runs ++ next_run t.forgotten t.runs event ∷ [] in
       let n = Run (length t.runs) in
       let u = record t { runs = (entered t event).runs } in
       let fit_u = (entered_keeps t event kept none).fit in
       let entry = stays_grows now u.runs (entered_settles t event kept.fit).stay in
-      let comes : Comes t.runs now n = record { waited = waited t.runs event; held = held t.runs event } in
-      rest_says t u (entered t event).moves (reply.Created (length t.runs + 1)) fit_u
+      let comes : Comes t.runs now n = record { waited = waited t.forgotten t.runs event; held = held t.forgotten t.runs event } in
+      rest_says t u (entered t event).moves (reply.Created (last_id t + 1)) refl fit_u
       (entered_one_each t event kept.fit s.one_of_each_group)
-      (grows_on t.runs now u.runs (new_run_grows t.runs event) entry)
-      (λ cancels requests. first_arrival_keeps (settled u.runs) g cancels requests t.runs now n (all_fit t.runs event kept.fit)
-      (new_run_tells t.runs event)
-      (new_is_unseen t.runs event) comes (new_run_waits t.runs event) (groups_before t.runs (next_run t.runs event)) s.one_of_each_group
-      (new_run_still t.runs event (all_fit t.runs event kept.fit) (new_run_waits t.runs event))
+      (grows_on t.runs now u.runs (new_run_grows t.forgotten t.runs event) entry)
+      (λ cancels requests. first_arrival_keeps (settled u.runs) g cancels requests t.runs now n (all_fit t.forgotten t.runs event kept.fit)
+      (new_run_tells t.forgotten t.runs event)
+      (new_is_unseen t.forgotten t.runs event) comes (new_run_waits t.forgotten t.runs event) (groups_before t.runs (next_run t.forgotten t.runs event)) s.one_of_each_group
+      (new_run_still t.forgotten t.runs event (all_fit t.forgotten t.runs event kept.fit) (new_run_waits t.forgotten t.runs event))
       (stays_grows u.runs (settled u.runs) (settling_settles u.runs fit_u).stay)))
 
   lease_says : (t : TableState) (claim : Claimed) (p : LegSite) → IsSound t → claim_answer t claim ≡ None
@@ -296,12 +315,12 @@ module _ (g : Group) where
       (λ y at. goes_same (Leg p) (status_of_leg y) (Status.in_progress false)
       (sym (ap status_of_leg (same_Some y z (sym at ∙ ready.is)) ∙ ap leg_status ready.ready))) (λ nothing. refl) (only_none
       (Leg p)) in
-      rest_says t (record {
+      rest_says t (record t {
         last_lease = lease;
         runs = next;
         runners =
             with_runner t.runners (claiming_runner claim (Some lease) (given.Lease (kept_lease_at t.runs p lease)));
-      }) [] (reply.Lease (lease_at t.runs p lease)) stay.fit (leased_one_each t.runs kept.fit claim.labels p lease is s.one_of_each_group)
+      }) [] (reply.Lease (lease_at t.runs p lease)) refl stay.fit (leased_one_each t.runs kept.fit claim.labels p lease is s.one_of_each_group)
       (stays_grows t.runs next stay)
       (λ cancels requests. quiet_goes_on (is_in (settled next) g) cancels t.runs (without_moves next)
       (unmoved_is_quiet (is_in (settled next) g) cancels t.runs next tells (leased_fades t.runs kept.fit claim.labels p lease is).waited
@@ -315,7 +334,7 @@ module _ (g : Group) where
       (λ o. first_fit claim.labels t.runs ≡ o → StepSays t (option_map_or (leasing t claim) o (serving_nothing t claim))) [
         | None ↦ λ is.
             let u = record t { runners = with_runner t.runners (claiming_runner claim None given.Nothing) } in
-            rest_says t u [] reply.Nothing (kept_from_sound t s).fit s.one_of_each_group (grows_not t.runs)
+            rest_says t u [] reply.Nothing refl (kept_from_sound t s).fit s.one_of_each_group (grows_not t.runs)
             (λ cancels requests. goes_on_still (is_in (settled t.runs) g) cancels t.runs)
         | Some p ↦ λ is. lease_says t claim p s none is
       ] refl)
@@ -326,7 +345,7 @@ module _ (g : Group) where
       → StepSays t (at_rest_after (lease_end_moves lease o t.runs)
       (record t { runs = with_ended lease o t.runs; runners = runners }) reply.Ok)
   end_says t runners lease o s fit stay works =
-      rest_says t (record t { runs = with_ended lease o t.runs; runners = runners }) (lease_end_moves lease o t.runs) reply.Ok fit
+      rest_says t (record t { runs = with_ended lease o t.runs; runners = runners }) (lease_end_moves lease o t.runs) reply.Ok refl fit
       (ended_one_each lease o t.runs (kept_from_sound t s).fit stay s.one_of_each_group) (stays_grows t.runs
       (with_ended lease o t.runs) stay)
       (λ cancels requests. lease_end_goes_on (is_in (settled (with_ended lease o t.runs)) g) cancels t.runs lease o works)
@@ -344,11 +363,11 @@ module _ (g : Group) where
   cancel_says t id s =
       either_says t (cancel_answer t id) (cancelling t id) (λ none.
       let kept = kept_from_sound t s in
-      let h = Run (id - 1) in
-      let stop = run_stop_settles t.runs (id - 1) kept.fit in
+      let h = Run (index_of t id) in
+      let stop = run_stop_settles t.runs (index_of t id) kept.fit in
       let next = (stop_holder h t.runs).runs in
-      rest_says t (record t { runs = next }) (stop_holder h t.runs).moves reply.Ok stop.stay.fit
-      (stopped_one_each (id - 1) t.runs kept.fit s.one_of_each_group) (stays_grows t.runs next stop.stay)
+      rest_says t (record t { runs = next }) (stop_holder h t.runs).moves reply.Ok refl stop.stay.fit
+      (stopped_one_each (index_of t id) t.runs kept.fit s.one_of_each_group) (stays_grows t.runs next stop.stay)
       (λ cancels requests. quiet_goes_on (is_in (settled next) g) cancels t.runs (stop_holder h t.runs)
       (stop_is_quiet (is_in (settled next) g) cancels h t.runs)))
 
@@ -375,16 +394,31 @@ module _ (g : Group) where
             ] refl
       ] refl
 
-  rerun_says : (t : TableState) (requested : Attempt) → StepSays t (rerun t requested) ⊎ RunsAgain t (command.Rerun requested) (rerun t requested)
+  rerun_says : (t : TableState) (requested : Attempt) → Says t (command.Rerun requested) (rerun t requested)
   rerun_says t requested =
       elim (rerun_answer t requested) as
-      (λ o. rerun_answer t requested ≡ o → StepSays t (option_map_or (unchanged t) o (rerunning t requested))
-      ⊎ RunsAgain t (command.Rerun requested) (option_map_or (unchanged t) o (rerunning t requested))) [
-        | None ↦ λ none. inr (record { requested = requested; command_is = refl; begins = begins_again t requested none; is = refl })
+      (λ o. rerun_answer t requested ≡ o → Says t (command.Rerun requested) (option_map_or (unchanged t) o (rerunning t requested))) [
+        | None ↦ λ none. inr (inl (record { requested = requested; command_is = refl; begins = begins_again t requested none; is = refl }))
         | Some r ↦ λ is. inl (unchanged_says t r)
       ] refl
 
-  pub step_says : (t : TableState) (c : Command) → IsSound t → StepSays t (stepped t c) ⊎ RunsAgain t c (stepped t c)
+  forget_says : (t : TableState) (id : ℕ) → IsSound t → Forgets t (forgot t id)
+  forget_says t id s = record {
+    gone = forgettable t id;
+    ended = forgot_ended t id s;
+    dropped = forgot_drops t id;
+    silent = forgot_is_silent t id;
+  }
+
+  -- no run changes
+  discharge_says : (t : TableState) (name : List ℕ) → StepSays t (discharging t name)
+  discharge_says t name = record {
+    same_forgotten = refl;
+    grows = grows_not t.runs;
+    goes_on = (λ cancels requests. goes_on_still (is_in t.runs g) cancels t.runs);
+  }
+
+  pub step_says : (t : TableState) (c : Command) → IsSound t → Says t c (stepped t c)
   step_says t (command.Admit event) s = inl (admit_says t event s)
   step_says t (command.Claim claim) s = inl (claim_says t claim s)
   step_says t (command.Done report) s = inl (report_says t report s)
@@ -394,3 +428,6 @@ module _ (g : Group) where
   step_says t (command.Fetch id) s = inl (unchanged_says t (stepped t (command.Fetch id)).reply)
   step_says t (command.Look id) s = inl (unchanged_says t (stepped t (command.Look id)).reply)
   step_says t (command.Rerun requested) s = rerun_says t requested
+  step_says t (command.Forget id) s = inr (inr (forget_says t id s))
+  step_says t (command.Discharge name) s =
+      inl (either_says t (discharge_answer t name) (discharging t name) (λ none. discharge_says t name))

@@ -16,7 +16,8 @@ use Rattle.table_model.specs.Groups.{holds, leg_holds, leg_waits, run_waits, wai
 use Rattle.table_model.specs.GroupLaw.{Transition, at_each}
 use Rattle.table_model.specs.declared.sites.LegSite.{LegSite}
 use Rattle.table_model.specs.Settling.{result_at}
-use Rattle.table_model.specs.LegContext.{may_run_in, next_run, planned_legs}
+use Rattle.table_model.specs.Forgotten.{ForgottenRuns, next_run}
+use Rattle.table_model.specs.LegContext.{may_run_in, planned_legs}
 use Rattle.table_model.specs.Sound.{LeaseFits, PhaseFits}
 use Rattle.table_model.specs.Runs.{is_live, is_open, new_leg, run_in_phase, finished_as}
 use Rattle.table_model.specs.Stops.{stop_holder, with_stopped_legs}
@@ -374,22 +375,22 @@ waiting_unbegun runs fit (Leg p) waiting = λ z at.
 
 -- ---- a new run
 
-pub new_run_still : (runs : List RunState) (event : Admitted) (fit : RunsFit (runs ++ next_run runs event ∷ []))
-    → waits (runs ++ next_run runs event ∷ []) (Run (length runs)) ≡ true → AllStill runs (runs ++ next_run runs event ∷ [])
-new_run_still runs event fit waiting (Run r) all =
+pub new_run_still : (forgotten : ForgottenRuns) (runs : List RunState) (event : Admitted) (fit : RunsFit (runs ++ next_run forgotten runs event ∷ []))
+    → waits (runs ++ next_run forgotten runs event ∷ []) (Run (length runs)) ≡ true → AllStill runs (runs ++ next_run forgotten runs event ∷ [])
+new_run_still forgotten runs event fit waiting (Run r) all =
     elim (cases_eq r (length runs)) [
       | inl same ↦
-          subst (λ (k : ℕ). Unbegun (runs ++ next_run runs event ∷ []) (Run k)) (sym same)
-          (waiting_unbegun (runs ++ next_run runs event ∷ []) fit (Run (length runs)) waiting)
-      | inr other ↦ subst (There RunUnbegun) (sym (before_the_end runs (next_run runs event) r other)) all
+          subst (λ (k : ℕ). Unbegun (runs ++ next_run forgotten runs event ∷ []) (Run k)) (sym same)
+          (waiting_unbegun (runs ++ next_run forgotten runs event ∷ []) fit (Run (length runs)) waiting)
+      | inr other ↦ subst (There RunUnbegun) (sym (before_the_end runs (next_run forgotten runs event) r other)) all
     ]
-new_run_still runs event fit waiting (Leg q) all =
-    let next = runs ++ next_run runs event ∷ [] in
+new_run_still forgotten runs event fit waiting (Leg q) all =
+    let next = runs ++ next_run forgotten runs event ∷ [] in
     of_run next q
     (elim (cases_eq q.run (length runs)) [
       | inl same ↦ λ x at y is z e.
           let no_legs = (waiting_unbegun next fit (Run (length runs)) waiting x (ap (run_at next) (sym same)
           ∙ at)).no_legs q.job y is in
           let past : slice_get [] q.leg ≡ Some z = subst (λ (ls : List LegState). slice_get ls q.leg ≡ Some z) no_legs e in cc
-      | inr other ↦ subst (There (OfRun q.job q.leg)) (sym (before_the_end runs (next_run runs event) q.run other)) (by_run runs q all)
+      | inr other ↦ subst (There (OfRun q.job q.leg)) (sym (before_the_end runs (next_run forgotten runs event) q.run other)) (by_run runs q all)
     ])

@@ -19,5 +19,9 @@ HasNumber _ runner number = ⊥
 abbrev pub HaveNoLaterNumber : List ℕ → ℕ → List Command → Type 0
 HaveNoLaterNumber runner number commands = AllByRecursion (λ c. (n : ℕ) → HasNumber c runner n → n ≤ number) commands
 
+-- none of the commands discharges this runner
+abbrev pub HaveNoDischarge : List ℕ → List Command → Type 0
+HaveNoDischarge runner commands = AllByRecursion (λ c. c ≡ command.Discharge runner → ⊥) commands
+
 abbrev pub IsRefused : Reply → Type 0
 IsRefused given = (e : Refusal) × (given ≡ reply.Refused e)

@@ -4,6 +4,7 @@ pub mod GroupChanges
 pub mod GroupHistories
 pub mod GroupHolders
 pub mod GroupLawTest
+pub mod LeasesGranted
 pub mod Names
 pub mod Remembered
 pub mod RunIds

@@ -20,7 +20,7 @@ attempt_of runs h = option_map_or (λ x. x.attempt) (run_at runs (run_of h)) 1
 
 -- the id of the run at an index; if there is no run yet, the id that it gets
 abbrev pub id_in : TableState → ℕ → ℕ
-id_in t r = option_map_or (λ x. x.id) (run_at t.runs r) (r + 1)
+id_in t r = option_map_or (λ x. x.id) (run_at t.runs r) (t.forgotten.through + r + 1)
 
 -- the holder with the id of its run in place of the index
 abbrev pub by_id : TableState → Holder → Holder

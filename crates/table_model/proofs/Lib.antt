@@ -1,9 +1,13 @@
 pub mod AnyOf
 pub mod Changed
+pub mod Counts
 pub mod DirectNeeds
 pub mod Doors
+pub mod Filters
+pub mod ForgottenMore
 pub mod Found
 pub mod Identity
+pub mod InOrder
 pub mod JobKeeps
 pub mod JobPhases
 pub mod LeaseReads

@@ -11,7 +11,8 @@ use Rattle.std.proofs.lemmas.Option.{same_Some, slice_get-map, slice_get_within}
 use Rattle.std.proofs.lemmas.Slice.Eq.{bytes_eq-Decides}
 use Rattle.definitions.specs.SmallText.{Admitted}
 use Rattle.wf_reader.specs.Event.{event_of}
-use Rattle.table_model.specs.LegContext.{events, number_of_next, runs_of_workflow, same_workflow}
+use Rattle.table_model.specs.Forgotten.{ForgottenRuns, forgotten_of, number_of_next}
+use Rattle.table_model.specs.LegContext.{events, runs_of_workflow, same_workflow}
 use Rattle.table_model.specs.Parts.{AreRunsOf, RunParts, run_of_parts, stored_run}
 use Rattle.table_model.specs.Runs.{run_at, RunState}
 use Rattle.table_model.specs.Sound.{IdsFollow, NumbersFollow}
@@ -42,30 +43,34 @@ count_of_map test f xs = fold_of_map (λ a y. a + cond (test y) 1 0) f 0 xs
 
 -- ---- one more run
 
-pub ids_more : (runs : List RunState) (run : RunState) → run.id ≡ length runs + 1 → IdsFollow runs → IdsFollow (runs ++ run ∷ [])
-ids_more runs run is follow r x at =
+pub ids_more : (forgotten : ForgottenRuns) (runs : List RunState) (run : RunState) → run.id ≡ forgotten.through + length runs + 1
+    → IdsFollow forgotten runs → IdsFollow forgotten (runs ++ run ∷ [])
+ids_more forgotten runs run is follow r x at =
     elim (cases_eq r (length runs)) [
       | inl here ↦
           let same = same_Some run x (sym (at_the_end runs run) ∙ ap (slice_get (runs ++ run ∷ [])) (sym here) ∙ at) in
-          ap (λ (y : RunState). y.id) (sym same) ∙ is ∙ ap (λ n. n + 1) (sym here)
+          ap (λ (y : RunState). y.id) (sym same) ∙ is ∙ ap (λ n. forgotten.through + n + 1) (sym here)
       | inr other ↦ follow r x (sym (before_the_end runs run r other) ∙ at)
     ]
 
-pub numbers_more : (runs : List RunState) (run : RunState) → run.number ≡ number_of_next runs run.admitted → NumbersFollow runs
-    → NumbersFollow (runs ++ run ∷ [])
-numbers_more runs run is follow r x at =
+pub numbers_more : (forgotten : ForgottenRuns) (runs : List RunState) (run : RunState)
+    → run.number ≡ number_of_next forgotten runs run.admitted → NumbersFollow forgotten runs → NumbersFollow forgotten (runs ++ run ∷ [])
+numbers_more forgotten runs run is follow r x at =
     let next = runs ++ run ∷ [] in
+    let before = forgotten_of forgotten.counts in
     elim (cases_eq r (length runs)) [
       | inl here ↦
           let same = same_Some run x (sym (at_the_end runs run) ∙ ap (slice_get next) (sym here) ∙ at) in
           let all : take (r + 1) next ≡ next = take_all (r + 1) next (omega (arith, length-append runs (run ∷ []), here)) in
-          subst (λ (y : RunState). y.number ≡ runs_of_workflow y.admitted (take (r + 1) next)) same
-          (is ∙ sym (count_end (λ (y : RunState). same_workflow run.admitted y.admitted) runs run (same_as_itself run.admitted))
-          ∙ ap (runs_of_workflow run.admitted) (sym all))
+          let one_more = count_end (λ (y : RunState). same_workflow run.admitted y.admitted) runs run (same_as_itself run.admitted) in
+          let its : run.number ≡ before run.admitted + runs_of_workflow run.admitted next = omega (arith, is, one_more) in
+          subst (λ (y : RunState). y.number ≡ before y.admitted + runs_of_workflow y.admitted (take (r + 1) next)) same
+          (its ∙ ap (λ xs. before run.admitted + runs_of_workflow run.admitted xs) (sym all))
       | inr other ↦
           let was = sym (before_the_end runs run r other) ∙ at in
           let within = slice_get_within runs r x was in
-          follow r x was ∙ ap (runs_of_workflow x.admitted) (sym (take-append-le (r + 1) runs (run ∷ []) (omega (arith, within))))
+          follow r x was
+          ∙ ap (λ xs. before x.admitted + runs_of_workflow x.admitted xs) (sym (take-append-le (r + 1) runs (run ∷ []) (omega (arith, within))))
     ]
 
 -- ---- runs of the same events
@@ -92,38 +97,42 @@ workflow_same event n runs next same =
 
 -- ---- the same identities
 
-pub ids_stay : (runs next : List RunState) → ((r : ℕ) → identity_at next r ≡ identity_at runs r) → IdsFollow runs → IdsFollow next
-ids_stay runs next same follow r x at =
+pub ids_stay : (forgotten : ForgottenRuns) (runs next : List RunState) → ((r : ℕ) → identity_at next r ≡ identity_at runs r)
+    → IdsFollow forgotten runs → IdsFollow forgotten next
+ids_stay forgotten runs next same follow r x at =
     let was = from_map identity_of (run_at runs r) (identity_of x) (sym (same r) ∙ ap identity_in at) in
     ap (λ (i : Identity). i.id) (sym was.gives) ∙ follow r was.value was.is
 
-pub numbers_stay : (runs next : List RunState) → ((r : ℕ) → identity_at next r ≡ identity_at runs r) → NumbersFollow runs → NumbersFollow next
-numbers_stay runs next same follow r x at =
+pub numbers_stay : (forgotten : ForgottenRuns) (runs next : List RunState) → ((r : ℕ) → identity_at next r ≡ identity_at runs r)
+    → NumbersFollow forgotten runs → NumbersFollow forgotten next
+numbers_stay forgotten runs next same follow r x at =
+    let before = forgotten_of forgotten.counts in
     let was = from_map identity_of (run_at runs r) (identity_of x) (sym (same r) ∙ ap identity_in at) in
     ap (λ (i : Identity). i.number) (sym was.gives) ∙ follow r was.value was.is
-    ∙ ap (λ (i : Identity). runs_of_workflow i.admitted (take (r + 1) runs)) was.gives
-    ∙ sym (workflow_same x.admitted (r + 1) runs next (λ s. same_admitted runs next s (same s)))
+    ∙ ap (λ (i : Identity). before i.admitted + runs_of_workflow i.admitted (take (r + 1) runs)) was.gives
+    ∙ ap (λ n. before x.admitted + n) (sym (workflow_same x.admitted (r + 1) runs next (λ s. same_admitted runs next s (same s))))
 
 -- ---- runs and their parts
 
 no_run : (r : ℕ) (x : RunState) → run_at [] r ≡ Some x → ⊥
 no_run r x at = cc
 
-pub none_of : (runs : List RunState) → runs ≡ [] → AreRunsOf [] runs
-none_of runs none = subst (AreRunsOf []) (sym none) (record {
+pub none_of : (forgotten : ForgottenRuns) (runs : List RunState) → runs ≡ [] → AreRunsOf forgotten [] runs
+none_of forgotten runs none = subst (AreRunsOf forgotten []) (sym none) (record {
   as_stored = refl;
   ids = (λ r x at. absurd (no_run r x at));
   numbers = (λ r x at. absurd (no_run r x at));
 })
 
-pub one_more_of : (parts : List RunParts) (r : ℕ) (part : RunParts) (runs : List RunState) (run : RunState) → AreRunsOf (take r parts) runs
-    → slice_get parts r ≡ Some part → run ≡ run_of_parts (length runs + 1) (number_of_next runs part.admitted) part
-    → AreRunsOf (take (r + 1) parts) (runs ++ run ∷ [])
-one_more_of parts r part runs run are at is = record {
+pub one_more_of : (forgotten : ForgottenRuns) (parts : List RunParts) (r : ℕ) (part : RunParts) (runs : List RunState) (run : RunState)
+    → AreRunsOf forgotten (take r parts) runs → slice_get parts r ≡ Some part
+    → run ≡ run_of_parts (forgotten.through + length runs + 1) (number_of_next forgotten runs part.admitted) part
+    → AreRunsOf forgotten (take (r + 1) parts) (runs ++ run ∷ [])
+one_more_of forgotten parts r part runs run are at is = record {
   as_stored = grown stored_run runs run parts r part are.as_stored (ap stored_run is) at;
-  ids = ids_more runs run (ap (λ (x : RunState). x.id) is) are.ids;
-  numbers = numbers_more runs run
-      (ap (λ (x : RunState). x.number) is ∙ ap (λ (x : RunState). number_of_next runs x.admitted) (sym is)) are.numbers;
+  ids = ids_more forgotten runs run (ap (λ (x : RunState). x.id) is) are.ids;
+  numbers = numbers_more forgotten runs run
+      (ap (λ (x : RunState). x.number) is ∙ ap (λ (x : RunState). number_of_next forgotten runs x.admitted) (sym is)) are.numbers;
 }
 
 lists_same : {X : Type 0} (xs ys : List X) → ((k : ℕ) → slice_get xs k ≡ slice_get ys k) → xs ≡ ys
@@ -138,7 +147,8 @@ its_event None = refl
 its_event (Some x) = refl
 
 -- the runs of given parts are unique
-module _ (parts : List RunParts) (runs others : List RunState) (are : AreRunsOf parts runs) (they : AreRunsOf parts others) where
+module _ (forgotten : ForgottenRuns) (parts : List RunParts) (runs others : List RunState) (are : AreRunsOf forgotten parts runs)
+    (they : AreRunsOf forgotten parts others) where
   parts_alike : (r : ℕ) → option_map stored_run (run_at runs r) ≡ option_map stored_run (run_at others r)
   parts_alike r =
       sym (slice_get-map stored_run runs r) ∙ ap (λ (ps : List RunParts). slice_get ps r) (are.as_stored ∙ sym they.as_stored)
@@ -152,8 +162,10 @@ module _ (parts : List RunParts) (runs others : List RunState) (are : AreRunsOf 
   alike r x y at there same =
       let id : x.id ≡ y.id = are.ids r x at ∙ sym (they.ids r y there) in
       let number : x.number ≡ y.number =
-      are.numbers r x at ∙ ap (λ (part : RunParts). runs_of_workflow part.admitted (take (r + 1) runs)) same
-      ∙ workflow_same y.admitted (r + 1) others runs events_alike ∙ sym (they.numbers r y there) in
+      are.numbers r x at
+      ∙ ap (λ (part : RunParts). forgotten_of forgotten.counts part.admitted + runs_of_workflow part.admitted (take (r + 1) runs)) same
+      ∙ ap (λ n. forgotten_of forgotten.counts y.admitted + n) (workflow_same y.admitted (r + 1) others runs events_alike)
+      ∙ sym (they.numbers r y there) in
       ap (λ i. run_of_parts i x.number (stored_run x)) id
       ∙ ap (λ n. run_of_parts y.id n (stored_run x)) number
       ∙ ap (run_of_parts y.id y.number) same

@@ -1,10 +1,10 @@
 -- The context of a leg, and what the templates of a run, its jobs and its legs say in it.
-use Rattle.std.specs.Prelude.{ℕ, ◌+◌, ◌&&◌, List, [], ◌∷◌, map, length, count_by, Bool, pos, find, codes, Option}
+use Rattle.std.specs.Prelude.{ℕ, ◌&&◌, List, [], ◌∷◌, map, length, count_by, Bool, pos, find, codes, Option}
 use Rattle.std.specs.Prelude.{None, option_map, option_and_then, slice_get, unwrap_or, if◌then◌else◌, false, is_some}
 use Rattle.std.specs.Str.{bytes_eq}
 use Rattle.wf_reader.specs.Event.{event_of}
 use Rattle.definitions.specs.SmallText.{Admitted}
-use Rattle.table_model.specs.Runs.{RunState, direct_needs, new_run, run_at, plan_at}
+use Rattle.table_model.specs.Runs.{RunState, direct_needs, run_at, plan_at}
 use Rattle.std.specs.Fmt.{decimal}
 use Rattle.std.specs.Option.{option_map_or}
 use Rattle.wf_value.specs.ScalarValue.{result_word, scalar_text}
@@ -25,9 +25,7 @@ use Rattle.wf_reader.specs.declared.flag.Flag.TheVariants as flag
 use Rattle.needs_graph.specs.Needs.{needs_at, ancestor_results as results_of_ancestors, condition_value}
 pub use Rattle.table_model.specs.Runs.{job_results, needs_graph_at, needs_in, results_so_far, finished_result}
 
--- ---- the runs of a workflow, and the id and the number of the next run. Its number is how many runs of its workflow there are with it.
--- GitHub Docs, "Contexts reference", github.run_number. This project defines that a workflow is identified by its repository and its path, and
--- that ids count from 1.
+-- ---- the runs of a workflow. This project defines that a workflow is identified by its repository and its path.
 
 -- the events of runs
 abbrev pub events : List RunState → List Admitted
@@ -41,14 +39,6 @@ same_workflow a b =
 -- how many of the runs are of the workflow of an event
 abbrev pub runs_of_workflow : Admitted → List RunState → ℕ
 runs_of_workflow event runs = count_by (λ run. same_workflow event run.admitted) runs
-
--- the number that the next run of an event would have
-abbrev pub number_of_next : List RunState → Admitted → ℕ
-number_of_next runs event = runs_of_workflow event runs + 1
-
--- the run that an event makes after these runs
-abbrev pub next_run : List RunState → Admitted → RunState
-next_run runs event = new_run (length runs + 1) (number_of_next runs event) event
 
 -- ---- the context of a leg: the values of the paths that a template in its job may use. GitHub Docs, "Contexts reference": github context,
 -- inputs context, vars context, needs context, strategy context, matrix context. This project defines that the service's own repository,

@@ -1,6 +1,7 @@
 pub mod AsPlanned
 pub mod Changes
 pub mod Fitting
+pub mod Forgotten
 pub mod GroupLaw
 pub mod Groups
 pub mod Holders

@@ -1,6 +1,7 @@
--- Runs as they are stored: without their ids and their numbers, which follow from their places.
+-- Runs as they are stored: without their ids and their numbers, which follow from their places and from the forgotten runs.
 use Rattle.std.specs.Prelude.{◌≡◌, ℕ, List, map, Bool}
 use Rattle.definitions.specs.SmallText.{Admitted}
+use Rattle.table_model.specs.Forgotten.{ForgottenRuns}
 use Rattle.table_model.specs.Runs.{JobState, RunState}
 use Rattle.table_model.specs.Sound.{IdsFollow, NumbersFollow}
 use Rattle.table_model.specs.declared.phases.RunPhase.{RunPhase}
@@ -34,8 +35,8 @@ run_of_parts id number parts = record {
   jobs = parts.jobs;
 }
 
--- the runs that are stored as these parts
-pub record AreRunsOf (parts : List RunParts) (runs : List RunState) : Type 0 where
+-- the runs that are stored as these parts, after the forgotten ones
+pub record AreRunsOf (forgotten : ForgottenRuns) (parts : List RunParts) (runs : List RunState) : Type 0 where
   pub as_stored : map stored_run runs ≡ parts
-  pub ids : IdsFollow runs
-  pub numbers : NumbersFollow runs
+  pub ids : IdsFollow forgotten runs
+  pub numbers : NumbersFollow forgotten runs

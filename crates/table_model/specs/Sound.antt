@@ -1,7 +1,7 @@
 -- What every table keeps.
 use Rattle.std.specs.Prelude.{◌≡◌, ◌⊎◌, ℕ, List, [], length, Bool, true, false, slice_get, Option, Some, None, IsSome, ◌<◌, ◌≤◌}
-use Rattle.std.specs.Prelude.{◌+◌, take}
-use Rattle.std.specs.List.{list_all}
+use Rattle.std.specs.Prelude.{◌+◌, take, min, sum_by}
+use Rattle.std.specs.List.{AllByRecursion, list_all}
 use Rattle.wf_value.specs.declared.outcome.JobResult.{JobResult}
 use Rattle.wf_value.specs.declared.outcome.JobResult.TheVariants as result
 use Rattle.wf_value.specs.declared.outcome.Outcome.TheVariants as outcome
@@ -19,8 +19,9 @@ use Rattle.table_model.specs.declared.phases.RunPhase.TheVariants as run_phase
 use Rattle.definitions.specs.Limits.{last_attempt, last_number, max_runs}
 use Rattle.table_model.specs.Groups.{HasOneEach}
 use Rattle.table_model.specs.Fitting.{is_at_work, legs_at_work, most_at_work}
+use Rattle.table_model.specs.Forgotten.{ForgottenRuns, forgotten_of, increases, max_kept_deliveries, workflow_order}
 use Rattle.table_model.specs.Step.{lease_at}
-use Rattle.table_model.specs.TableState.{RunnerState, TableState, names_rise}
+use Rattle.table_model.specs.TableState.{RunnerState, TableState, known_deliveries, last_id, names_rise}
 use Rattle.run_plan.specs.declared.last_command.LastCommand.{LastCommand}
 use Rattle.run_plan.specs.declared.last_command.LastCommand.TheVariants as last
 use Rattle.run_plan.specs.declared.last_command.ClaimReply.TheVariants as given
@@ -92,18 +93,28 @@ pub record RunsAreSound (runs : List RunState) : Type 0 where
 
 -- ---- runs
 
--- ids count from 1
-abbrev pub IdsFollow : List RunState → Type 0
-IdsFollow runs = (r : ℕ) (x : RunState) → run_at runs r ≡ Some x → x.id ≡ r + 1
+-- The counts of workflows are in order, each is of one run or more, and their sum is the number of runs that are forgotten. The deliveries of
+-- the last of these are kept.
+pub record ForgottenFit (forgotten : ForgottenRuns) : Type 0 where
+  pub counts_in_order : increases workflow_order forgotten.counts ≡ true
+  pub each_counts : AllByRecursion (λ count. 1 ≤ count.runs) forgotten.counts
+  pub all_counted : sum_by (λ count. count.runs) forgotten.counts ≡ forgotten.through
+  pub last_are_kept : length forgotten.deliveries ≡ min forgotten.through max_kept_deliveries
 
--- the number of a run is how many runs of its workflow there are up to it
-abbrev pub NumbersFollow : List RunState → Type 0
-NumbersFollow runs = (r : ℕ) (x : RunState) → run_at runs r ≡ Some x → x.number ≡ runs_of_workflow x.admitted (take (r + 1) runs)
+-- ids go on from the last one that is forgotten
+abbrev pub IdsFollow : ForgottenRuns → List RunState → Type 0
+IdsFollow forgotten runs = (r : ℕ) (x : RunState) → run_at runs r ≡ Some x → x.id ≡ forgotten.through + r + 1
 
--- no delivery made two runs
-abbrev pub DeliveriesDiffer : List RunState → Type 0
-DeliveriesDiffer runs =
-    (a b : ℕ) (x y : RunState) → run_at runs a ≡ Some x → run_at runs b ≡ Some y → x.admitted.delivery ≡ y.admitted.delivery → a ≡ b
+-- the number of a run is how many runs of its workflow there have been up to it
+abbrev pub NumbersFollow : ForgottenRuns → List RunState → Type 0
+NumbersFollow forgotten runs =
+    (r : ℕ) (x : RunState) → run_at runs r ≡ Some x
+    → x.number ≡ forgotten_of forgotten.counts x.admitted + runs_of_workflow x.admitted (take (r + 1) runs)
+
+-- no two of these deliveries are the same
+abbrev pub DeliveriesDiffer : List (List ℕ) → Type 0
+DeliveriesDiffer deliveries =
+    (a b : ℕ) (delivery : List ℕ) → slice_get deliveries a ≡ Some delivery → slice_get deliveries b ≡ Some delivery → a ≡ b
 
 -- an attempt is a number from 1 to the last
 abbrev pub AttemptIsGiven : RunState → Type 0
@@ -189,9 +200,11 @@ KeptLeasesAreOfLegs most runs runners = (k : ℕ) (x : RunnerState) → slice_ge
 
 pub record IsSound (t : TableState) : Type 0 where
   pub few_runs : length t.runs ≤ max_runs
-  pub ids_follow : IdsFollow t.runs
-  pub numbers_follow : NumbersFollow t.runs
-  pub deliveries_differ : DeliveriesDiffer t.runs
+  pub last_id_in_range : last_id t ≤ last_number
+  pub forgotten_fit : ForgottenFit t.forgotten
+  pub ids_follow : IdsFollow t.forgotten t.runs
+  pub numbers_follow : NumbersFollow t.forgotten t.runs
+  pub deliveries_differ : DeliveriesDiffer (known_deliveries t)
   pub attempts_are_given : AttemptsAreGiven t.runs
   pub jobs_are_the_plans : JobsAreThePlans t.runs
   pub run_phases_fit : RunPhasesFit t.runs

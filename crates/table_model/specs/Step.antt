@@ -1,7 +1,7 @@
 -- One step of the table, and the steps of a sequence of commands.
-use Rattle.std.specs.Prelude.{ℕ, ◌+◌, ◌-◌, ◌&&◌, List, [], ◌∷◌, ◌++◌, length, Bool, true, false, not, is_some, nat_eq, nat_le, Option, Some}
-use Rattle.std.specs.Prelude.{None, option_map, if◌then◌else◌}
-use Rattle.std.specs.List.{position}
+use Rattle.std.specs.Prelude.{ℕ, ◌+◌, ◌&&◌, ◌||◌, List, [], ◌∷◌, ◌++◌, length, map, take, drop, Bool, true, false, not, is_some, nat_eq}
+use Rattle.std.specs.Prelude.{nat_le, Option, Some, None, option_map, if◌then◌else◌}
+use Rattle.std.specs.List.{prefix_len}
 use Rattle.std.specs.Option.{option_or, option_map_or}
 use Rattle.definitions.specs.Limits.{last_attempt, last_number, max_runs}
 use Rattle.wf_value.specs.declared.code.Code.{Code}
@@ -24,11 +24,14 @@ use Rattle.table_model.specs.Settling.{arrived, settled, settling_moves}
 use Rattle.table_model.specs.Fitting.{first_fit, is_lease_stopping}
 use Rattle.table_model.specs.GroupLaw.{Move, Transition}
 use Rattle.table_model.specs.TableState.{Step, RunnerState, TableState, runner_named, answer_by_number, with_runner, holds_lease, holds_this}
-use Rattle.table_model.specs.Runs.{run_at, with_leg, with_run, RunState, again, is_delivered_as, leased_leg}
+use Rattle.table_model.specs.TableState.{index_of, last_id, run_of_delivery, run_with, without_runner}
+use Rattle.table_model.specs.Forgotten.{next_run, none_forgotten, with_forgotten}
+use Rattle.table_model.specs.Runs.{run_at, with_leg, with_run, RunState, again, leased_leg}
 use Rattle.table_model.specs.declared.sites.LegSite.{LegSite}
 use Rattle.table_model.specs.Stops.{stop_holder, with_ended, lease_end_moves, outcome_of_loss}
 use Rattle.table_model.specs.ViewText.{Seen, seen_of, seen_text}
-use Rattle.table_model.specs.LegContext.{job_id, combo_at, id_at, next_run}
+use Rattle.table_model.specs.LegContext.{job_id, combo_at, id_at}
+use Rattle.run_plan.specs.declared.last_command.LastCommand.{LastCommand}
 use Rattle.run_plan.specs.declared.last_command.LastCommand.TheVariants as last
 use Rattle.run_plan.specs.declared.last_command.ClaimReply.{ClaimReply}
 use Rattle.run_plan.specs.declared.last_command.ClaimReply.TheVariants as given
@@ -39,12 +42,13 @@ use Rattle.table_model.specs.declared.holder.Holder.TheVariants.{Run}
 
 -- ---- one step of the table: the reply to a command, the table after it, and the group moves on the way. Some commands
 -- leave the table unchanged: those that are refused, in the order of their checks, a known delivery, an attempt that
--- has begun, a repeated command, a heartbeat, and a look or a fetch. The others change the table and then settle it;
--- the moves of their own change come first.
+-- has begun, a repeated command, a heartbeat, a look or a fetch, and a `forget` that finds no run to forget. The others
+-- change the table and then settle it; the moves of their own change come first. A `forget` and a `discharge` change no
+-- run that stays, so nothing settles after them.
 
 -- a table without runs or runners
 abbrev pub empty : TableState
-empty = record { last_lease = 0; runs = []; runners = [] }
+empty = record { last_lease = 0; forgotten = none_forgotten; runs = []; runners = [] }
 
 abbrev pub refused : Code → Reply
 refused code = reply.Refused (Numbered code)
@@ -63,19 +67,23 @@ at_rest t reply = at_rest_after [] t reply
 
 -- ---- admit
 
--- a delivery that is in the table makes no second run
+-- the table has as many runs as it may have, or the last id is used up
+abbrev pub is_full : TableState → Bool
+is_full t = nat_le max_runs (length t.runs) || nat_le last_number (last_id t)
+
+-- a delivery that is known makes no second run
 abbrev pub admission_answer : TableState → Admitted → Option Reply
 admission_answer t event =
-    option_or (option_map (λ i. reply.Created (i + 1)) (position (is_delivered_as event.delivery) t.runs))
-    (if nat_le max_runs (length t.runs) then Some (refused LastCounter) else None)
+    option_or (option_map (λ id. reply.Created id) (run_of_delivery t event.delivery))
+    (if is_full t then Some (refused LastCounter) else None)
 
 -- the new run arrives in its group
 abbrev pub entered : TableState → Admitted → Transition
-entered t event = arrived (Run (length t.runs)) (t.runs ++ next_run t.runs event ∷ [])
+entered t event = arrived (Run (length t.runs)) (t.runs ++ next_run t.forgotten t.runs event ∷ [])
 
 abbrev pub admitting : TableState → Admitted → Step
 admitting t event =
-    at_rest_after (entered t event).moves (record t { runs = (entered t event).runs }) (reply.Created (length t.runs + 1))
+    at_rest_after (entered t event).moves (record t { runs = (entered t event).runs }) (reply.Created (last_id t + 1))
 
 abbrev pub admitted : TableState → Admitted → Step
 admitted t event = option_map_or (unchanged t) (admission_answer t event) (admitting t event)
@@ -115,7 +123,7 @@ abbrev pub leasing : TableState → Claimed → LegSite → Step
 leasing t claim p =
     let lease = t.last_lease + 1 in
     let lease_reply = lease_at t.runs p lease in
-    at_rest (record {
+    at_rest (record t {
       last_lease = lease;
       runs = with_leg p (λ _. leased_leg lease) t.runs;
       runners =
@@ -171,13 +179,13 @@ answer_of_run run.Waiting stopping = None
 answer_of_run run.Live stopping = if stopping then Some reply.Ok else None
 answer_of_run run.Ended stopping = Some (refused RunCompleted)
 
--- a run that is stopping already stays as it is; ids count from 1
+-- a run that is stopping already stays as it is
 abbrev pub cancel_answer : TableState → ℕ → Option Reply
-cancel_answer t id = option_map_or (λ run. answer_of_run run.phase run.stopping) (run_at t.runs (id - 1)) (Some (refused NoRun))
+cancel_answer t id = option_map_or (λ run. answer_of_run run.phase run.stopping) (run_with t id) (Some (refused NoRun))
 
 abbrev pub cancelling : TableState → ℕ → Step
 cancelling t id =
-    let stopped = stop_holder (Run (id - 1)) t.runs in at_rest_after stopped.moves (record t { runs = stopped.runs }) reply.Ok
+    let stopped = stop_holder (Run (index_of t id)) t.runs in at_rest_after stopped.moves (record t { runs = stopped.runs }) reply.Ok
 
 abbrev pub cancelled : TableState → ℕ → Step
 cancelled t id = option_map_or (unchanged t) (cancel_answer t id) (cancelling t id)
@@ -201,9 +209,8 @@ answer_of_attempt x requested =
     if nat_eq requested.attempt x.attempt then Some (reply.Again requested)
     else (if nat_eq requested.attempt (x.attempt + 1) then answer_of_next x else Some (reply.Refused (Turn x.attempt)))
 
--- ids count from 1
 abbrev pub rerun_answer : TableState → Attempt → Option Reply
-rerun_answer t requested = option_map_or (λ x. answer_of_attempt x requested) (run_at t.runs (requested.run - 1)) (Some (refused NoRun))
+rerun_answer t requested = option_map_or (λ x. answer_of_attempt x requested) (run_with t requested.run) (Some (refused NoRun))
 
 -- the run, in its next attempt, arrives in its group again
 abbrev pub entered_again : TableState → ℕ → Transition
@@ -211,7 +218,7 @@ entered_again t r = arrived (Run r) (with_run r again t.runs)
 
 abbrev pub rerunning : TableState → Attempt → Step
 rerunning t requested =
-    let begun = entered_again t (requested.run - 1) in at_rest_after begun.moves (record t { runs = begun.runs }) (reply.Again requested)
+    let begun = entered_again t (index_of t requested.run) in at_rest_after begun.moves (record t { runs = begun.runs }) (reply.Again requested)
 
 abbrev pub rerun : TableState → Attempt → Step
 rerun t requested = option_map_or (unchanged t) (rerun_answer t requested) (rerunning t requested)
@@ -244,16 +251,74 @@ lost t name =
 -- ---- fetch
 
 abbrev pub fetch_answer : TableState → ℕ → Reply
-fetch_answer t id = option_map_or (λ run. reply.Body run.admitted.body) (run_at t.runs (id - 1)) (refused NoRun)
+fetch_answer t id = option_map_or (λ run. reply.Body run.admitted.body) (run_with t id) (refused NoRun)
 
 -- ---- look
 
 -- the view of the run with an id
 abbrev pub seen : TableState → ℕ → Option Seen
-seen t id = seen_of t.runs id
+seen t id = option_map seen_of (run_with t id)
 
 abbrev pub look_answer : TableState → ℕ → Reply
 look_answer t id = option_map_or (λ seen. reply.Run (seen_text seen)) (seen t id) (refused NoRun)
+
+-- ---- forget: the first runs that have completed, as many as follow one another and have ids up to the one that is given. This project
+-- defines it.
+
+-- a run that has completed and whose id is up to this one
+abbrev pub is_forgettable : ℕ → RunState → Bool
+is_forgettable id run = has_completed run.phase && nat_le run.id id
+
+-- how many of the first runs are
+abbrev pub forgettable : TableState → ℕ → ℕ
+forgettable t id = prefix_len (is_forgettable id) t.runs
+
+-- a lease of a forgotten run is no longer a reply: its leg has ended
+abbrev pub reply_through : ℕ → ClaimReply → ClaimReply
+reply_through through given.Nothing = given.Nothing
+reply_through through (given.Lease kept) = if nat_le kept.lease_reply.run through then given.Nothing else given.Lease kept
+
+abbrev pub last_through : ℕ → LastCommand → LastCommand
+last_through through (last.Claim claim given) = last.Claim claim (reply_through through given)
+last_through through (last.Done report) = last.Done report
+
+-- the runner, once the runs with ids through this one are forgotten
+abbrev pub runner_through : ℕ → RunnerState → RunnerState
+runner_through through runner = record runner { last = last_through through runner.last }
+
+-- the table without its first runs, which are forgotten
+abbrev pub without : ℕ → TableState → TableState
+without k t =
+    let forgotten = with_forgotten t.forgotten (take k t.runs) in record t {
+      forgotten = forgotten;
+      runs = drop k t.runs;
+      runners = map (runner_through forgotten.through) t.runners;
+    }
+
+-- no run is to be forgotten
+abbrev pub forget_answer : TableState → ℕ → Option Reply
+forget_answer t id = if nat_eq (forgettable t id) 0 then Some (reply.Forgotten t.forgotten.through) else None
+
+abbrev pub forgetting : TableState → ℕ → Step
+forgetting t id =
+    let next = without (forgettable t id) t in record { table = next; reply = reply.Forgotten next.forgotten.through; moves = [] }
+
+abbrev pub forgot : TableState → ℕ → Step
+forgot t id = option_map_or (unchanged t) (forget_answer t id) (forgetting t id)
+
+-- ---- discharge: a runner is forgotten. This project defines it.
+
+-- a runner that holds a lease stays
+abbrev pub discharge_answer : TableState → List ℕ → Option Reply
+discharge_answer t name =
+    option_map_or (λ runner. if is_some runner.holds then Some (refused HasLease) else None) (runner_named t.runners name)
+    (Some (refused NoRunner))
+
+abbrev pub discharging : TableState → List ℕ → Step
+discharging t name = record { table = record t { runners = without_runner t.runners name }; reply = reply.Ok; moves = [] }
+
+abbrev pub discharged : TableState → List ℕ → Step
+discharged t name = option_map_or (unchanged t) (discharge_answer t name) (discharging t name)
 
 -- ---- all commands
 
@@ -267,6 +332,8 @@ stepped t (command.Lost name) = lost t name
 stepped t (command.Fetch id) = unchanged t (fetch_answer t id)
 stepped t (command.Look id) = unchanged t (look_answer t id)
 stepped t (command.Rerun requested) = rerun t requested
+stepped t (command.Forget id) = forgot t id
+stepped t (command.Discharge name) = discharged t name
 
 -- the table after the command, and its reply
 abbrev pub outcome : Step → TableState × Reply
@@ -288,6 +355,8 @@ read_only_reply t (command.Lost name) = loss_answer t name
 read_only_reply t (command.Fetch id) = Some (fetch_answer t id)
 read_only_reply t (command.Look id) = Some (look_answer t id)
 read_only_reply t (command.Rerun requested) = rerun_answer t requested
+read_only_reply t (command.Forget id) = forget_answer t id
+read_only_reply t (command.Discharge name) = discharge_answer t name
 
 -- whether there is a reply and it holds no text, so that it needs no memory
 abbrev pub is_allocation_free : Option Reply → Bool

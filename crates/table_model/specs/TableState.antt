@@ -1,8 +1,10 @@
 -- A table, and the sequence of its runners' numbered commands.
-use Rattle.std.specs.Prelude.{ℕ, List, Option, ◌+◌, ◌&&◌, ◌∷◌, ◌++◌, filter, find, Bool, false, nat_eq, is_some, Some, None, option_map}
-use Rattle.std.specs.Prelude.{if◌then◌else◌}
+use Rattle.std.specs.Prelude.{ℕ, List, Option, ◌+◌, ◌-◌, ◌&&◌, ◌∷◌, ◌++◌, filter, find, length, Bool, false, nat_eq, nat_le, not, is_some}
+use Rattle.std.specs.Prelude.{Some, None, option_map, if◌then◌else◌}
+use Rattle.std.specs.List.{position}
 use Rattle.run_plan.specs.declared.last_command.LastCommand.{LastCommand}
-use Rattle.table_model.specs.Runs.{RunState}
+use Rattle.table_model.specs.Forgotten.{ForgottenRuns, deliveries_of}
+use Rattle.table_model.specs.Runs.{RunState, run_at}
 use Rattle.run_plan.specs.declared.reply.Reply.{Reply}
 use Rattle.table_model.specs.GroupLaw.{Move}
 use Rattle.std.specs.Cmp.Lexicographic.{slice_cmp}
@@ -15,7 +17,8 @@ use Rattle.run_plan.specs.LastCommand.{kept_reply}
 use Rattle.run_plan.specs.ReplyText.{carries_text}
 use Rattle.run_plan.specs.declared.reply.Reply.TheVariants as reply
 
--- ---- a table as contracts see it: the last lease, the runs in the order of their ids, and the known runners.
+-- ---- a table as contracts see it: the last lease, what is kept of forgotten runs, the other runs in the order of their ids, and the known
+-- runners.
 
 -- a runner: its last numbered command with the kept reply, and the lease that it holds
 pub record RunnerState : Type 0 where
@@ -26,6 +29,7 @@ pub record RunnerState : Type 0 where
 
 pub record TableState : Type 0 where
   pub last_lease : ℕ
+  pub forgotten : ForgottenRuns
   pub runs : List RunState
   pub runners : List RunnerState
 
@@ -34,6 +38,30 @@ pub record Step : Type 0 where
   pub table : TableState
   pub reply : Reply
   pub moves : List Move
+
+-- ---- ids and deliveries. The ids of the runs go on from the last one that is forgotten.
+
+-- the id of the last run
+abbrev pub last_id : TableState → ℕ
+last_id t = t.forgotten.through + length t.runs
+
+-- the index of the run with an id
+abbrev pub index_of : TableState → ℕ → ℕ
+index_of t id = id - t.forgotten.through - 1
+
+-- the run with an id; none if it is forgotten
+abbrev pub run_with : TableState → ℕ → Option RunState
+run_with t id = if nat_le id t.forgotten.through then None else run_at t.runs (index_of t id)
+
+-- the deliveries that are known, in the order of the ids of their runs: the kept ones, and those of the runs
+abbrev pub known_deliveries : TableState → List (List ℕ)
+known_deliveries t = t.forgotten.deliveries ++ deliveries_of t.runs
+
+-- the id of the run that a delivery made, if it is known
+abbrev pub run_of_delivery : TableState → List ℕ → Option ℕ
+run_of_delivery t delivery =
+    option_map (λ i. t.forgotten.through - length t.forgotten.deliveries + i + 1)
+    (position (λ known. bytes_eq known delivery) (known_deliveries t))
 
 -- ---- the sequence of a runner's numbered commands. Each has the number after the last, or repeats the last one and gets
 -- the kept reply.
@@ -87,6 +115,10 @@ is_above name runner = is_lt (slice_cmp nat_cmp name runner.name)
 -- the runners below it, the runner in place of any of the same name, and the runners above it
 abbrev pub with_runner : List RunnerState → RunnerState → List RunnerState
 with_runner runners runner = filter (is_below runner.name) runners ++ runner ∷ filter (is_above runner.name) runners
+
+-- the runners without the one of a name
+abbrev pub without_runner : List RunnerState → List ℕ → List RunnerState
+without_runner runners name = filter (λ runner. not (is_named name runner)) runners
 
 -- ---- what a runner holds
 

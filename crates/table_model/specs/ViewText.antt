@@ -1,6 +1,5 @@
 -- The view of a run and its text.
-use Rattle.std.specs.Prelude.{ℕ, ◌-◌, List, ◌++◌, map, flat_map, Bool, is_some, nat_le, codes, Option, option_map}
-use Rattle.std.specs.Prelude.{slice_get, if◌then◌else◌}
+use Rattle.std.specs.Prelude.{ℕ, List, ◌++◌, map, flat_map, Bool, is_some, nat_le, codes, if◌then◌else◌}
 use Rattle.std.specs.List.{list_any, zip, join_with_byte}
 use Rattle.std.specs.Fmt.{decimal}
 use Rattle.wf_value.specs.ScalarValue.{outcome_word, result_word}
@@ -22,10 +21,8 @@ pub record Seen : Type 0 where
   pub number : ℕ
   pub run : RunState
 
--- ids count from 1
-abbrev pub seen_of : List RunState → ℕ → Option Seen
-seen_of runs id =
-    option_map (λ run. record { id = run.id; number = run.number; run = run }) (slice_get runs (id - 1))
+abbrev pub seen_of : RunState → Seen
+seen_of run = record { id = run.id; number = run.number; run = run }
 
 abbrev pub leg_text : LegPhase → List ℕ
 leg_text leg.New = codes "new"

@@ -3,7 +3,6 @@ pub mod ActiveRuns
 pub mod Cells
 pub mod Claims
 pub mod Holders
-pub mod KeptSite
 pub mod LegCounts
 pub mod NeedsLeft
 pub mod PlacedLegs

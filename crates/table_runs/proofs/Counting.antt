@@ -1,5 +1,5 @@
 -- One more run is counted: the count of its workflow grows by one, and the other counts stay the same.
-use Rattle.std.specs.Prelude.{◌≡◌, ℕ, ◌+◌, ◌<◌, ◌&&◌, List, [], ◌∷◌, ◌++◌, Bool, true, false, cond, count_by, IsSomeAnd, MatchOption, Some, None}
+use Rattle.std.specs.Prelude.{◌≡◌, ℕ, ◌+◌, ◌<◌, ◌≤◌, ◌&&◌, List, [], ◌∷◌, ◌++◌, Bool, true, false, cond, count_by, IsSomeAnd, MatchOption, Some, None}
 use Rattle.std.specs.Prelude.{Option, length, map}
 use Rattle.std.specs.List.{AllZip}
 use Rattle.std.specs.Option.{option_map_or}
@@ -13,13 +13,15 @@ use Rattle.std.proofs.lemmas.Map.Entries.{lookup_clone}
 use Rattle.std.proofs.lemmas.Slice.Eq.{bytes_eq-Decides}
 use Rattle.std.specs.Cmp.{IsEquivalence}
 use Rattle.indexmap.specs.IndexMap.{IndexMap}
+use Rattle.forgotten_runs.proofs.FirstFound.{same_found}
 use Rattle.std.specs.Map.{lookup}
 use Rattle.wf_reader.specs.Event.{event_of}
 use Rattle.definitions.specs.SmallText.{Admitted}
-use Rattle.table_model.specs.LegContext.{events, number_of_next, same_workflow}
+use Rattle.table_model.specs.Forgotten.{ForgottenRuns, forgotten_of, number_of_next}
+use Rattle.table_model.specs.LegContext.{events, same_workflow}
 use Rattle.table_model.specs.Runs.{RunState}
 use Rattle.table_model.proofs.Numbered.{count_of_map}
-use Rattle.table_runs.specs.inner.Counted.{AreCounted, count_of}
+use Rattle.table_runs.specs.inner.Counted.{AreCounted, count_of, number_among}
 use Rattle.table_runs.specs.declared.rows.counts.Counted.{Counted}
 
 laws : IsEquivalence same_workflow
@@ -27,12 +29,6 @@ laws = and_equiv (on_equiv (λ (e : Admitted). (event_of e.body).repo) nat_list_
     (on_equiv (λ (e : Admitted). (event_of e.body).path) nat_list_eq_equiv)
 
 -- ---- a copy finds the same
-
-pub same_found : {X : Type 0} (D : X → X → Type 0) → ((m n : X) → D m n → n ≡ m) → (old new : Option X)
-    → MatchOption old (new ≡ None) (λ v. IsSomeAnd new (D v)) → new ≡ old
-same_found D is None new h = h
-same_found D is (Some v) (Some w) h = ap Some (is v w h)
-same_found D is (Some v) None h = absurd h
 
 pub copied_counts : {S : Type 0} (C : Admitted → Admitted → Type 0) (D : Counted → Counted → Type 0) → ((x y : Admitted) → C x y → y ≡ x)
     → ((m n : Counted) → D m n → n ≡ m) → (old new : IndexMap Admitted Counted S)
@@ -51,7 +47,7 @@ module _ {S : Type 0} (runs : List RunState) (counts : IndexMap Admitted Counted
       let counted = are event in
       omega (arith, all, counted, few, count_by-le-length (same_workflow event) (events runs))
 
-  pub next_counted : (number : ℕ) → number ≡ count_of counts event + 1 → number ≡ number_of_next runs event
+  pub next_counted : (number : ℕ) → number ≡ count_of counts event + 1 → number ≡ number_among runs event
   next_counted number is =
       is ∙ ap (λ n. n + 1) (are event ∙ sym (count_of_map (same_workflow event) (λ (run : RunState). run.admitted) runs))
 
@@ -69,7 +65,7 @@ same_count run event same es =
     ap₂ (λ repo path. count_by (by_texts repo path) es) ((bytes_eq-Decides a.repo b.repo).0 parts.0) ((bytes_eq-Decides a.path b.path).0 parts.1)
 
 pub one_counted : {S : Type 0} (runs : List RunState) (run : RunState) (old new : IndexMap Admitted Counted S) (number : ℕ)
-    → AreCounted (events runs) old → number ≡ number_of_next runs run.admitted
+    → AreCounted (events runs) old → number ≡ number_among runs run.admitted
     → ((event : Admitted) → count_of new event ≡ cond (same_workflow run.admitted event) number (count_of old event))
     → AreCounted (events runs ++ run.admitted ∷ []) new
 one_counted runs run old new number are is so event =
@@ -92,3 +88,14 @@ one_counted runs run old new number are is so event =
   where
     plus_none : (n : ℕ) → n + (0 + 0) ≡ n
     plus_none n = omega arith
+
+-- ---- the number of a run among all runs of its workflow
+
+pub among_within : (runs : List RunState) (event : Admitted) → number_among runs event ≤ length runs + 1
+among_within runs event =
+    let few = count_by-le-length (λ (run : RunState). same_workflow event run.admitted) runs in omega (arith, few)
+
+-- the number after the forgotten runs and these
+pub number_after : (forgotten : ForgottenRuns) (runs : List RunState) (event : Admitted) (number among : ℕ)
+    → number ≡ forgotten_of forgotten.counts event + among → among ≡ number_among runs event → number ≡ number_of_next forgotten runs event
+number_after forgotten runs event number among is of = omega (arith, is, of)

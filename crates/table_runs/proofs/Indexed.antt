@@ -14,6 +14,7 @@ use Rattle.indexmap.specs.IndexMap.{IndexMap, get_by_text}
 use Rattle.definitions.specs.SmallText.{Admitted}
 use Rattle.table_model.specs.Runs.{is_delivered_as, RunState}
 use Rattle.table_model.specs.LegContext.{events}
+use Rattle.forgotten_runs.proofs.FirstFound.{from_map, kept_alone, kept_or, more}
 use Rattle.table_runs.specs.inner.Delivered.{FindsFirst, has_delivery}
 
 -- ---- the first element of a list that passes a test
@@ -34,42 +35,6 @@ first_one test (y ∷ ys) i e =
       passes = three.1;
       others_fail = (λ k x lt at. sym (ap test (get_or_from_slice_get (y ∷ ys) k x y at)) ∙ three.2 k lt);
     }
-
--- ---- the first of a list with one more
-
-one_behind : (n m : ℕ) → (n + 1) + m ≡ n + suc m
-one_behind n m = omega arith
-
-from_more : {X : Type 0} (test : X → Bool) (n : ℕ) (xs : List X) (x : X)
-    → position_from test n (xs ++ x ∷ []) ≡ option_or (position_from test n xs) (cond (test x) (Some (n + length xs)) None)
-from_more test n [] x = ap (λ k. cond (test x) (Some k) None) (none n)
-  where
-    none : (k : ℕ) → k ≡ k + 0
-    none k = omega arith
-from_more test n (y ∷ ys) x = by (test y) (from_more test (n + 1) ys x)
-  where
-    by : (b : Bool)
-        → position_from test (n + 1) (ys ++ x ∷ []) ≡ option_or (position_from test (n + 1) ys) (cond (test x) (Some ((n + 1) + length ys)) None)
-        → cond b (Some n) (position_from test (n + 1) (ys ++ x ∷ []))
-        ≡ option_or (cond b (Some n) (position_from test (n + 1) ys)) (cond (test x) (Some (n + length (y ∷ ys))) None)
-    by true later = refl
-    by false later =
-        later ∙ ap (λ k. option_or (position_from test (n + 1) ys) (cond (test x) (Some k) None)) (one_behind n (length ys))
-
-from_map : {X Y : Type 0} (test : Y → Bool) (f : X → Y) (n : ℕ) (xs : List X)
-    → position_from test n (map f xs) ≡ position_from (λ x. test (f x)) n xs
-from_map test f n [] = refl
-from_map test f n (x ∷ xs) = ap (λ o. cond (test (f x)) (Some n) o) (from_map test f (n + 1) xs)
-
-more : {X : Type 0} (test : X → Bool) (xs : List X) (x : X)
-    → position test (xs ++ x ∷ []) ≡ option_or (position test xs) (cond (test x) (Some (length xs)) None)
-more test xs x =
-    position_from-zero test (xs ++ x ∷ []) ∙ from_more test 0 xs x
-    ∙ ap (λ k. option_or (position_from test 0 xs) (cond (test x) (Some k) None)) (none_before (length xs))
-    ∙ ap (λ o. option_or o (cond (test x) (Some (length xs)) None)) (sym (position_from-zero test xs))
-  where
-    none_before : (n : ℕ) → 0 + n ≡ n
-    none_before n = omega arith
 
 -- ---- the runs
 
@@ -99,14 +64,6 @@ found_within (run ∷ runs) d most (Some i) is few =
 pub finds_the_same : {S : Type 0} (es : List Admitted) (old new : IndexMap (String Global) ℕ S)
     → ((d : List ℕ) → get_by_text new d ≡ get_by_text old d) → FindsFirst es old → FindsFirst es new
 finds_the_same es old new same finds d = same d ∙ finds d
-
-kept_or : (o : Option ℕ) (r : ℕ) → Some (unwrap_or o r) ≡ option_or o (Some r)
-kept_or None r = refl
-kept_or (Some i) r = refl
-
-kept_alone : (o : Option ℕ) → o ≡ option_or o None
-kept_alone None = refl
-kept_alone (Some i) = refl
 
 pub finds_one_more : {S : Type 0} (runs : List RunState) (run : RunState) (old new : IndexMap (String Global) ℕ S) (d : List ℕ) (r : ℕ)
     → d ≡ run.admitted.delivery → r ≡ length runs

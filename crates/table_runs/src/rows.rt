@@ -18,7 +18,7 @@ ghost use Rattle.table_bindings.specs.declared.group_keys.KnownGroup.{KnownGroup
 ghost use Rattle.table_model.specs.Changes.{changed};
 ghost use Rattle.table_model.specs.Runs.{is_delivered_as, job_at, leg_at, run_at, with_run};
 ghost use Rattle.table_model.specs.Groups.{holds, run_facts, waits};
-ghost use Rattle.table_model.specs.LegContext.{number_of_next};
+ghost use Rattle.table_runs.specs.inner.Counted.{number_among};
 ghost use Rattle.table_runs.specs.inner.Begun.{AddsOrStays, IsBegun, IsBegunBelow, has_legs_at};
 ghost use Rattle.table_runs.specs.inner.GroupsKept.{arrivals_to_come};
 ghost use Rattle.table_runs.specs.StoredSizes.{max_run_size, run_size};
@@ -26,7 +26,6 @@ ghost use Rattle.table_runs.specs.inner.RowsKept.{IsUndecided, decided_in, holde
 
 mod active;
 pub(crate) mod counts;
-mod deliveries;
 pub(crate) mod index;
 pub(crate) mod offers;
 mod rerun;
@@ -48,12 +47,11 @@ use table_bindings::RunBindings;
 use table_model::{Change, Holder, Job, Leg, LegSite, Run};
 use wf_value::{Code, Refusal, TryCopy, copy_items};
 
-/// The run that comes next: its workflow, its id, its number among the runs of the workflow, and the index of the latest of them. No
+/// The run that comes next: its workflow, its number among the runs of the workflow that are there, and the index of the latest of them. No
 /// contract mentions the index.
 #[derive(Drop)]
 pub(crate) struct ComingRun {
     pub workflow: Workflow,
-    pub id: Number,
     pub number: Number,
     pub latest: Option<usize>,
 }
@@ -131,15 +129,12 @@ impl Rows {
         requires { length self.now.runs < max_runs }
         ensures err { ErrsOnlyByMemory result }
         ensures workflow { IfOk result (λ coming. coming.workflow ≡ event.now) }
-        ensures id { IfOk result (λ coming. coming.id ≡ length self.now.runs + 1) }
-        ensures number { IfOk result (λ coming. coming.number ≡ number_of_next self.now.runs event.now) }
+        ensures number { IfOk result (λ coming. coming.number ≡ number_among self.now.runs event.now) }
     {
         let workflow = Workflow::of(event)?;
         let counted = self.index.counts.next(&workflow);
-        let r = self.as_slice().len();
         Ok(ComingRun {
             workflow,
-            id: Number::new(r as u32 + 1),
             number: Number::new(counted.number as u32),
             latest: counted.latest,
         })
@@ -156,7 +151,7 @@ impl Rows {
     ) -> Result<(), Refusal>
         requires room { length self.old.runs < max_runs }
         requires workflow { coming.workflow ≡ run.admitted }
-        requires number { coming.number ≡ number_of_next self.old.runs run.admitted }
+        requires number { coming.number ≡ number_among self.old.runs run.admitted }
         ensures err { ErrsOnlyByMemory result }
         ensures adds { AddsOrStays result run self.old self.new book.old book.new }
     {
@@ -193,7 +188,7 @@ impl Rows {
     ) -> Result<(), Refusal>
         requires room { length self.old.runs < max_runs }
         requires workflow { workflow ≡ run.admitted }
-        requires number { number ≡ number_of_next self.old.runs run.admitted }
+        requires number { number ≡ number_among self.old.runs run.admitted }
         ensures err { ErrsOnlyByMemory result }
         ensures adds { AddsOrStays result run self.old self.new book.old book.new }
     {

@@ -7,6 +7,7 @@ use Rattle.definitions.specs.SmallText.{Admitted, is_runner_byte}
 use Rattle.stored_tables.specs.Stored.{RunnerParts, TableParts}
 use Rattle.stored_tables.specs.declared.parts.LastParts.{LastParts}
 use Rattle.stored_tables.specs.declared.parts.StoredLease.{StoredLease}
+use Rattle.table_model.specs.Forgotten.{ForgottenRuns, none_forgotten}
 use Rattle.table_model.specs.Parts.{RunParts}
 use Rattle.table_model.specs.Runs.{JobState}
 use Rattle.table_model.specs.declared.phases.RunPhase.{RunPhase}
@@ -14,12 +15,13 @@ use Rattle.table_text.specs.declared.kept.StoredReply.{StoredReply}
 use Rattle.table_text.specs.declared.kept.StoredReply.TheVariants as replied
 use Rattle.command_encodings.specs.Commands.{admit, command, number, small_text}
 use Rattle.table_text.specs.FirstLayout.{IsFirstKept, first_kept, first_kept_parts, first_last_command, first_run, first_runner, first_table}
-use Rattle.table_text.specs.FirstLayout.{unencoded}
+use Rattle.table_text.specs.SecondLayout.{unencoded}
+use Rattle.table_text.specs.inner.ReadingSecond.{unencoded_at}
 use Rattle.definitions.specs.Format.{Format, byte, counted, follow, only, pair, parts, row, word}
 use Rattle.command_encodings.specs.inner.Reading.{byte_at, counted_at, follow_at, items_at, pair_at}
 use Rattle.command_encodings.specs.inner.ReadingCommands.{admit_at, command_at, number_at, small_text_at}
 use Rattle.table_text.specs.inner.ReadingFirst.{first_course_at, first_kept_at, first_kept_of, first_last_at, first_run_at, first_runner_at}
-use Rattle.table_text.specs.inner.ReadingFirst.{first_runners_at, first_runs_at, first_table_at, unencoded_at, with_lease, without_lease}
+use Rattle.table_text.specs.inner.ReadingFirst.{first_runners_at, first_runs_at, first_table_at, with_lease, without_lease}
 use Rattle.table_text.specs.inner.ReadingTables.{flag_at, job_at, last_lease_at, last_of, lease_at, run_phase_at}
 use Rattle.table_text.specs.Tables.{flag_byte, is_last_lease, job, jobs_planned, last_parts, lease, names_rise, run_byte}
 use Rattle.command_encodings.proofs.CommandReaders.{admit_reads, chosen, command_reads, number_reads, small_text_reads}
@@ -27,7 +29,7 @@ use Rattle.command_encodings.proofs.FormReaders.{byte_reads, follow_reads, row_r
 use Rattle.command_encodings.proofs.Readers.{Prefixes, Reads, counted_reads, only_reads, pair_reads, parts_reads, some_reads, these_read}
 use Rattle.table_text.proofs.TableReaders.{flag_reads, job_reads, last_back_of, last_lease_reads, last_there, lease_reads, run_phase_reads}
 
-unencoded_reads : {A : Type 0} (x : A) → Reads (unencoded x) (unencoded_at x)
+pub unencoded_reads : {A : Type 0} (x : A) → Reads (unencoded x) (unencoded_at x)
 unencoded_reads {A} x = record {
   sound = λ bytes found are h.
       subst (λ (q : A × List ℕ). Prefixes (unencoded x) bytes q) (same_Some (x, bytes) found h)
@@ -152,15 +154,21 @@ first_runners_reads =
     only_reads names_rise (counted 0 4294967295 first_runner) (counted_at 0 4294967295 first_runner_at)
     (counted_reads 0 4294967295 first_runner first_runner_at (omega arith) first_runner_reads)
 
+abbrev first_runs_and_runners : Format (List RunParts × List RunnerParts)
+first_runs_and_runners = pair (counted 0 100000 first_run) (only names_rise (counted 0 4294967295 first_runner))
+
 pub first_table_reads : Reads first_table first_table_at
 unfolding first_table_at
 first_table_reads =
-    parts_reads (λ (t : TableParts). (t.last_lease, (t.runs, t.runners)))
-    (λ (p : ℕ × (List RunParts × List RunnerParts)). record { last_lease = p.0; runs = p.1.0; runners = p.1.1 })
-    (pair (only is_last_lease word) (pair (counted 0 100000 first_run) (only names_rise (counted 0 4294967295 first_runner))))
-    (pair_at last_lease_at (pair_at first_runs_at first_runners_at)) (λ _. refl) (λ _. refl)
-    (pair_reads (only is_last_lease word) (pair (counted 0 100000 first_run) (only names_rise (counted 0 4294967295 first_runner)))
-    last_lease_at (pair_at first_runs_at first_runners_at)
+    parts_reads (λ (t : TableParts). (t.last_lease, (t.forgotten, (t.runs, t.runners))))
+    (λ (p : ℕ × (ForgottenRuns × (List RunParts × List RunnerParts))). record
+    { last_lease = p.0; forgotten = p.1.0; runs = p.1.1.0; runners = p.1.1.1 })
+    (pair (only is_last_lease word) (pair (unencoded none_forgotten) first_runs_and_runners))
+    (pair_at last_lease_at (pair_at (unencoded_at none_forgotten) (pair_at first_runs_at first_runners_at))) (λ _. refl) (λ _. refl)
+    (pair_reads (only is_last_lease word) (pair (unencoded none_forgotten) first_runs_and_runners) last_lease_at
+    (pair_at (unencoded_at none_forgotten) (pair_at first_runs_at first_runners_at))
     last_lease_reads
+    (pair_reads (unencoded none_forgotten) first_runs_and_runners (unencoded_at none_forgotten) (pair_at first_runs_at first_runners_at)
+    (unencoded_reads none_forgotten)
     (pair_reads (counted 0 100000 first_run) (only names_rise (counted 0 4294967295 first_runner)) first_runs_at first_runners_at
-    first_runs_reads first_runners_reads))
+    first_runs_reads first_runners_reads)))

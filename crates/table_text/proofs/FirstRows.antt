@@ -4,6 +4,7 @@ use Rattle.wf_value.specs.declared.outcome.Outcome.TheVariants as outcome
 use Rattle.run_plan.specs.declared.command.Command.TheVariants as requested
 use Rattle.stored_tables.specs.Stored.{RunnerParts, TableParts}
 use Rattle.stored_tables.specs.declared.parts.LastParts.TheVariants as last
+use Rattle.table_model.specs.Forgotten.{none_forgotten}
 use Rattle.table_model.specs.Parts.{RunParts}
 use Rattle.table_model.specs.declared.phases.JobPhase.TheVariants as job_phase
 use Rattle.table_model.specs.declared.phases.LegPhase.TheVariants as leg_phase
@@ -12,7 +13,7 @@ use Rattle.table_text.specs.FirstLayout.{first_runner, first_table, is_in_first_
 use Rattle.definitions.specs.Format.{text_bytes, word_bytes}
 
 -- without runs or runners: twelve zero bytes, as in the second layout
-empty_bytes : first_table.encoding (record { last_lease = 0; runs = []; runners = [] })
+empty_bytes : first_table.encoding (record { last_lease = 0; forgotten = none_forgotten; runs = []; runners = [] })
     ≡ 0 ∷ 0 ∷ 0 ∷ 0 ∷ 0 ∷ 0 ∷ 0 ∷ 0 ∷ 0 ∷ 0 ∷ 0 ∷ 0 ∷ []
 unfolding word_bytes
 empty_bytes = refl
@@ -32,7 +33,7 @@ only_run = record {
 }
 
 abbrev admitted : TableParts
-admitted = record { last_lease = 0; runs = only_run ∷ []; runners = [] }
+admitted = record { last_lease = 0; forgotten = none_forgotten; runs = only_run ∷ []; runners = [] }
 
 -- the phase, the flag and the job follow the body
 admitted_bytes : first_table.encoding admitted

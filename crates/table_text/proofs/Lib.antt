@@ -5,4 +5,5 @@ pub mod TableLengthLaws
 pub mod TableReaders
 mod TableRows
 pub mod WholeFirstTables
+pub mod WholeSecondTables
 pub mod WholeTables

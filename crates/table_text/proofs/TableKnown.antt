@@ -31,7 +31,8 @@ use Rattle.table_model.specs.declared.phases.LegPhase.TheVariants as leg_phase
 use Rattle.table_model.specs.declared.phases.RunPhase.{RunPhase}
 use Rattle.table_model.specs.declared.phases.RunPhase.TheVariants as run_phase
 use Rattle.command_encodings.specs.Commands.{admit, are_none, is_faultless}
-use Rattle.table_text.specs.Tables.{IsLease, flag_byte, is_attempt, job, leg, leg_byte, run, run_byte, runner, table}
+use Rattle.table_model.specs.Forgotten.{ForgottenRuns}
+use Rattle.table_text.specs.Tables.{forgotten, IsLease, flag_byte, is_attempt, job, leg, leg_byte, run, run_byte, runner, table}
 use Rattle.definitions.specs.Format.{only, word, word_bytes}
 use Rattle.table_text.specs.inner.Writing.{HasByte, JobHasBytes, KeptHasBytes, RunHasBytes}
 use Rattle.run_table.proofs.RunnerPut.{all_from_each}
@@ -154,16 +155,17 @@ run_bytes old a b c event event' jobs jobs' n n' x x' y y' one two three f g h i
     ∙ ap (λ k. old ++ (event' ++ (word_bytes n' ++ x' ∷ k ∷ jobs))) i
     ∙ ap (λ (l : List ℕ). old ++ (event' ++ (word_bytes n' ++ x' ∷ y' ∷ l))) j
 
-five_parts : (old a b c d e l n rs m qs : List ℕ) → a ≡ old ++ l → b ≡ a ++ n → c ≡ b ++ rs → d ≡ c ++ m → e ≡ d ++ qs
-    → e ≡ old ++ (l ++ ((n ++ rs) ++ (m ++ qs)))
-five_parts old a b c d e l n rs m qs one two three four five =
+six_parts : (old a f b c d e l gone n rs m qs : List ℕ) → a ≡ old ++ l → f ≡ a ++ gone → b ≡ f ++ n → c ≡ b ++ rs → d ≡ c ++ m
+    → e ≡ d ++ qs → e ≡ old ++ (l ++ (gone ++ ((n ++ rs) ++ (m ++ qs))))
+six_parts old a f b c d e l gone n rs m qs one more two three four five =
     five
     ∙ ap (λ (k : List ℕ). k ++ qs) (four ∙ ap (λ (k : List ℕ). k ++ m)
-    (three ∙ ap (λ (k : List ℕ). k ++ rs) (two ∙ ap (λ (k : List ℕ). k ++ n) one)))
-    ∙ append_assoc ((((old ++ l) ++ n) ++ rs)) m qs
-    ∙ ap (λ (k : List ℕ). k ++ (m ++ qs)) (append_assoc (old ++ l) n rs)
-    ∙ append_assoc (old ++ l) (n ++ rs) (m ++ qs)
-    ∙ append_assoc old l ((n ++ rs) ++ (m ++ qs))
+    (three ∙ ap (λ (k : List ℕ). k ++ rs) (two ∙ ap (λ (k : List ℕ). k ++ n) (more ∙ ap (λ (k : List ℕ). k ++ gone) one))))
+    ∙ append_assoc (((((old ++ l) ++ gone) ++ n) ++ rs)) m qs
+    ∙ ap (λ (k : List ℕ). k ++ (m ++ qs)) (append_assoc ((old ++ l) ++ gone) n rs)
+    ∙ append_assoc ((old ++ l) ++ gone) (n ++ rs) (m ++ qs)
+    ∙ append_assoc (old ++ l) gone ((n ++ rs) ++ (m ++ qs))
+    ∙ append_assoc old l (gone ++ ((n ++ rs) ++ (m ++ qs)))
 
 -- the bytes of runs and of runners
 abbrev runs_written : List RunState → List ℕ
@@ -179,38 +181,41 @@ counted_seen f g xs =
     ap (λ n. word_bytes n ++ flat_map (λ x. f (g x)) xs) (sym (length-map xs g))
     ∙ ap (λ (bytes : List ℕ). word_bytes (length (map g xs)) ++ bytes) (sym (flat_map-map f g xs))
 
-pub table_bytes : (t : TableState) (old a b c d e : List ℕ) (lease : ℕ) (runs : List RunState) (runners : List RunnerState)
-    → a ≡ old ++ word_bytes lease
-    → b ≡ a ++ word_bytes (length runs) → c ≡ b ++ runs_written runs → d ≡ c ++ word_bytes (length runners)
-    → e ≡ d ++ runners_written runners → lease ≡ t.last_lease → runs ≡ t.runs
-    → runners ≡ t.runners
-    → e ≡ old ++ table.encoding (stored_table t)
-table_bytes t old a b c d e lease runs runners one two three four five same_lease same_runs same_runners =
-    five_parts old a b c d e (word_bytes lease) (word_bytes (length runs)) (runs_written runs) (word_bytes (length runners))
-    (runners_written runners) one two three four five
-    ∙ ap (λ n. old ++ (word_bytes n ++ ((word_bytes (length runs) ++ runs_written runs)
-    ++ (word_bytes (length runners) ++ runners_written runners)))) same_lease
-    ∙ ap (λ (rs : List RunState). old ++ (word_bytes t.last_lease ++ ((word_bytes (length rs) ++ runs_written rs)
-    ++ (word_bytes (length runners) ++ runners_written runners)))) same_runs
-    ∙ ap (λ (qs : List RunnerState). old ++ (word_bytes t.last_lease ++ ((word_bytes (length t.runs) ++ runs_written t.runs)
-    ++ (word_bytes (length qs) ++ runners_written qs)))) same_runners
-    ∙ ap (λ (bytes : List ℕ). old ++ (word_bytes t.last_lease ++ (bytes ++ (word_bytes (length t.runners) ++ runners_written t.runners))))
+pub table_bytes : (t : TableState) (old a f b c d e : List ℕ) (lease : ℕ) (gone : ForgottenRuns) (runs : List RunState)
+    (runners : List RunnerState) → a ≡ old ++ word_bytes lease → f ≡ a ++ forgotten.encoding gone → b ≡ f ++ word_bytes (length runs)
+    → c ≡ b ++ runs_written runs → d ≡ c ++ word_bytes (length runners) → e ≡ d ++ runners_written runners → lease ≡ t.last_lease
+    → gone ≡ t.forgotten → runs ≡ t.runs → runners ≡ t.runners → e ≡ old ++ table.encoding (stored_table t)
+table_bytes t old a f b c d e lease gone runs runners one more two three four five same_lease same_gone same_runs same_runners =
+    let after : List RunState → List RunnerState → List ℕ =
+    λ rs qs. (word_bytes (length rs) ++ runs_written rs) ++ (word_bytes (length qs) ++ runners_written qs) in
+    six_parts old a f b c d e (word_bytes lease) (forgotten.encoding gone) (word_bytes (length runs)) (runs_written runs)
+    (word_bytes (length runners)) (runners_written runners) one more two three four five
+    ∙ ap (λ n. old ++ (word_bytes n ++ (forgotten.encoding gone ++ after runs runners))) same_lease
+    ∙ ap (λ (g : ForgottenRuns). old ++ (word_bytes t.last_lease ++ (forgotten.encoding g ++ after runs runners))) same_gone
+    ∙ ap (λ (rs : List RunState). old ++ (word_bytes t.last_lease ++ (forgotten.encoding t.forgotten ++ after rs runners))) same_runs
+    ∙ ap (λ (qs : List RunnerState). old ++ (word_bytes t.last_lease ++ (forgotten.encoding t.forgotten ++ after t.runs qs))) same_runners
+    ∙ ap (λ (bytes : List ℕ). old ++ (word_bytes t.last_lease
+    ++ (forgotten.encoding t.forgotten ++ (bytes ++ (word_bytes (length t.runners) ++ runners_written t.runners)))))
     (counted_seen run.encoding stored_run t.runs)
     ∙ ap (λ (bytes : List ℕ). old ++ (word_bytes t.last_lease
-    ++ ((word_bytes (length (map stored_run t.runs)) ++ flat_map run.encoding (map stored_run t.runs)) ++ bytes)))
+    ++ (forgotten.encoding t.forgotten
+    ++ ((word_bytes (length (map stored_run t.runs)) ++ flat_map run.encoding (map stored_run t.runs)) ++ bytes))))
     (counted_seen runner.encoding stored_runner t.runners)
 
-pub table_takes : (t : TableState) → t.last_lease ≤ 999999999 → length t.runs ≤ 100000 → AreTaken t.runs
+pub table_takes : (t : TableState) → t.last_lease ≤ 999999999 → forgotten.Takes t.forgotten → length t.runs ≤ 100000 → AreTaken t.runs
     → length t.runners ≤ 4294967295
     → AllByRecursion (λ (r : RunnerState). runner.Takes (stored_runner r)) t.runners → names_rise t.runners ≡ true
     → table.Takes (stored_table t)
-table_takes t low few runs most runners rise =
+table_takes t low gone few runs most runners rise =
     let same = length-map t.runners stored_runner in
     let as_many = length-map t.runs stored_run in
     let rises = rises_over (λ r. r.name) stored_runner t.runners ∙ rise in (
       (omega (arith, low), le-leb t.last_lease 999999999 low),
       (
-        (omega arith, omega (arith, as_many, few), all_seen run.Takes stored_run t.runs runs),
-        ((omega arith, omega (arith, same, most), all_seen runner.Takes stored_runner t.runners runners), rises),
+        gone,
+        (
+          (omega arith, omega (arith, as_many, few), all_seen run.Takes stored_run t.runs runs),
+          ((omega arith, omega (arith, same, most), all_seen runner.Takes stored_runner t.runners runners), rises),
+        ),
       ),
     )

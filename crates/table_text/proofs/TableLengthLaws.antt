@@ -11,6 +11,7 @@ use Rattle.run_plan.specs.declared.last_command.LastCommand.TheVariants as kept_
 use Rattle.run_table.specs.inner.RunnerSizes.{last_size, runner_size}
 use Rattle.table_model.specs.TableState.{RunnerState}
 use Rattle.stored_tables.specs.Stored.{RunnerParts, TableParts, stored_last, stored_runner}
+use Rattle.table_model.specs.Forgotten.{ForgottenRuns, WorkflowCount}
 use Rattle.table_model.specs.Parts.{RunParts, stored_run}
 use Rattle.table_model.specs.Runs.{LegState, JobState, RunState}
 use Rattle.table_runs.specs.StoredSizes.{job_size, leg_counts, run_size}
@@ -21,8 +22,8 @@ use Rattle.stored_tables.specs.declared.parts.StoredSite.{StoredSite}
 use Rattle.command_encodings.specs.Commands.{admit, command_bytes}
 use Rattle.definitions.specs.Format.{present, text_bytes, word_bytes}
 use Rattle.command_encodings.specs.Lengths.{command_length, fields_length, length_of, text_length}
-use Rattle.table_text.specs.TableLengths.{last_length, lease_length, run_length, runner_length, table_length}
-use Rattle.table_text.specs.Tables.{flag_byte, job, kept, kept_lease, last_command, lease, leg, place, run, run_byte, runner, table}
+use Rattle.table_text.specs.TableLengths.{count_length, forgotten_length, last_length, lease_length, run_length, runner_length, table_length}
+use Rattle.table_text.specs.Tables.{count, flag_byte, forgotten, job, kept, kept_lease, last_command, lease, leg, place, run, run_byte, runner, table}
 use Rattle.table_text.specs.declared.kept.StoredReply.TheVariants as replied
 use Rattle.command_encodings.proofs.LengthLaws.{after_one, length_admit, length_command, length_counted, length_text, length_two, length_word}
 use Rattle.command_encodings.proofs.LengthLaws.{sum_same}
@@ -102,15 +103,34 @@ length_runner r =
     (length_two (last_command.encoding r.last) (lease.encoding r.holds) (last_length r.last) 4 (length_last r.last) (length_word _)))
     ∙ omega arith
 
+length_count : (c : WorkflowCount) → length_of count c ≡ count_length c
+length_count c =
+    length_two (text_bytes c.repo) (text_bytes c.path ++ word_bytes c.runs) (text_length c.repo) (text_length c.path + 4) (length_text c.repo)
+    (length_two (text_bytes c.path) (word_bytes c.runs) (text_length c.path) 4 (length_text c.path) (length_word c.runs))
+    ∙ omega arith
+
+length_forgotten : (f : ForgottenRuns) → length_of forgotten f ≡ forgotten_length f
+length_forgotten f =
+    let counts = length_counted count.encoding count_length f.counts length_count in
+    let deliveries : length (flat_map text_bytes f.deliveries) ≡ sum_by text_length f.deliveries =
+    length-flat_map text_bytes f.deliveries ∙ sum_same (λ d. length (text_bytes d)) text_length f.deliveries length_text in
+    length_two (word_bytes f.through) _ 4 ((4 + sum_by count_length f.counts) + sum_by text_length f.deliveries) (length_word f.through)
+    (length_two (word_bytes (length f.counts) ++ flat_map count.encoding f.counts) (flat_map text_bytes f.deliveries)
+    (4 + sum_by count_length f.counts) (sum_by text_length f.deliveries) counts deliveries)
+    ∙ omega arith
+
 pub length_table : (t : TableParts) → length_of table t ≡ table_length t
 length_table t =
     let runs = length_counted run.encoding run_length t.runs length_run in
     let runners = length_counted runner.encoding runner_length t.runners length_runner in
-    length_two (word_bytes t.last_lease) _ 4 ((4 + sum_by run_length t.runs) + (4 + sum_by runner_length t.runners))
+    length_two (word_bytes t.last_lease) _ 4
+    (forgotten_length t.forgotten + ((4 + sum_by run_length t.runs) + (4 + sum_by runner_length t.runners)))
     (length_word t.last_lease)
+    (length_two (forgotten.encoding t.forgotten) _ (forgotten_length t.forgotten)
+    ((4 + sum_by run_length t.runs) + (4 + sum_by runner_length t.runners)) (length_forgotten t.forgotten)
     (length_two (word_bytes (length t.runs) ++ flat_map run.encoding t.runs)
     (word_bytes (length t.runners) ++ flat_map runner.encoding t.runners)
-    (4 + sum_by run_length t.runs) (4 + sum_by runner_length t.runners) runs runners)
+    (4 + sum_by run_length t.runs) (4 + sum_by runner_length t.runners) runs runners))
     ∙ omega arith
 
 -- ---- the runs and the runners of a table, whose sizes it keeps

@@ -5,12 +5,14 @@ use Rattle.std.proofs.lemmas.Bool.{and_parts, cases_Bool, eqb-true, leb-true}
 use Rattle.std.proofs.lemmas.Option.{same_Some, none-some, cond_some}
 use Rattle.wf_value.specs.declared.outcome.JobResult.TheVariants as result
 use Rattle.wf_value.specs.declared.outcome.Outcome.TheVariants as outcome
-use Rattle.definitions.specs.SmallText.{Admitted, is_runner_byte}
+use Rattle.std.specs.Str.{is_utf8}
+use Rattle.definitions.specs.SmallText.{Admitted, is_delivery_byte, is_runner_byte}
 use Rattle.run_plan.specs.declared.command.Claim.{Claim}
 use Rattle.run_plan.specs.declared.command.Done.{Done}
 use Rattle.run_plan.specs.declared.command.Command.{Command}
 use Rattle.run_plan.specs.declared.command.Command.TheVariants as requested
 use Rattle.stored_tables.specs.Stored.{RunnerParts, TableParts, is_new}
+use Rattle.table_model.specs.Forgotten.{ForgottenRuns, WorkflowCount}
 use Rattle.table_model.specs.Parts.{RunParts}
 use Rattle.table_model.specs.Runs.{LegState, JobState}
 use Rattle.stored_tables.specs.declared.parts.LastParts.{LastParts}
@@ -24,23 +26,24 @@ use Rattle.table_model.specs.declared.phases.LegPhase.TheVariants as leg_phase
 use Rattle.table_model.specs.declared.phases.RunPhase.{RunPhase}
 use Rattle.table_model.specs.declared.phases.RunPhase.TheVariants as run_phase
 use Rattle.command_encodings.specs.Commands.{admit, command, is_numbered, number, small_text}
-use Rattle.definitions.specs.Format.{Format, byte, counted, follow, only, pair, parts, present, row, word}
-use Rattle.command_encodings.specs.inner.Reading.{byte_at, counted_at, follow_at, items_at, pair_at, parts_at, present_at, some_at, word_at}
+use Rattle.definitions.specs.Format.{Format, byte, counted, follow, only, pair, parts, present, row, text, word}
+use Rattle.command_encodings.specs.inner.Reading.{byte_at, counted_at, follow_at, items_at, pair_at, parts_at, present_at, some_at, text_at, word_at}
 use Rattle.command_encodings.specs.inner.ReadingCommands.{admit_at, command_at, number_at, small_text_at}
 use Rattle.table_text.specs.inner.ReadingTables.{attempt_at, claim_with, course_at, flag_at, job_at, job_phase_at, job_phases, kept_at}
 use Rattle.table_text.specs.inner.ReadingTables.{kept_lease_at, kept_of, last_at, last_lease_at, last_of, last_with, lease_at, lease_of}
 use Rattle.table_text.specs.inner.ReadingTables.{leg_at, leg_phase_at, leg_phases, of_byte, place_at, report_with, run_at, run_phase_at}
 use Rattle.table_text.specs.inner.ReadingTables.{run_phases, runner_at, runners_at, runs_at, table_at}
+use Rattle.table_text.specs.inner.ReadingTables.{count_at, forgotten_at, kept_of_forgotten_at, last_id_at, name_at}
 use Rattle.table_text.specs.Tables.{IsKept, IsLease, flag_byte, is_attempt, is_last_lease, job, job_byte, jobs_planned, kept, kept_bytes}
 use Rattle.table_text.specs.Tables.{kept_lease, last_command, last_parts, lease, lease_word, leg, leg_byte, names_rise, place, run}
-use Rattle.table_text.specs.Tables.{run_byte, runner, table}
+use Rattle.table_text.specs.Tables.{count, deliveries_kept, forgotten, is_last_id, name, run_byte, runner, runs_and_runners, table}
 use Rattle.table_text.specs.declared.kept.StoredReply.{StoredReply}
 use Rattle.table_text.specs.declared.kept.StoredReply.TheVariants as replied
 use Rattle.command_encodings.proofs.CommandReaders.{admit_reads, chosen, command_reads, number_reads, small_text_reads}
 use Rattle.wf_value.proofs.Bytes.{AreBytes, AreBytes-drop}
 use Rattle.command_encodings.proofs.FormReaders.{byte_reads, follow_reads, present_reads, row_reads}
 use Rattle.command_encodings.proofs.Readers.{Prefixes, Reads, bind_some, counted_reads, only_reads, pair_reads, parts_reads, some_bind, some_reads}
-use Rattle.command_encodings.proofs.Readers.{these_read, word_reads}
+use Rattle.command_encodings.proofs.Readers.{text_reads, these_read, word_reads}
 use Rattle.table_model.proofs.Found.{find_passes}
 
 -- ---- leases
@@ -281,6 +284,8 @@ last_back_of (requested.Lost r) k l h = absurd (none-some l h)
 last_back_of (requested.Look r) k l h = absurd (none-some l h)
 last_back_of (requested.Fetch r) k l h = absurd (none-some l h)
 last_back_of (requested.Rerun a) k l h = absurd (none-some l h)
+last_back_of (requested.Forget r) k l h = absurd (none-some l h)
+last_back_of (requested.Discharge r) k l h = absurd (none-some l h)
 
 pub last_reads : Reads last_command last_at
 unfolding last_at
@@ -301,6 +306,45 @@ runner_reads =
     (pair_reads number (pair last_command lease) number_at (pair_at last_at lease_at) number_reads
     (pair_reads last_command lease last_at lease_at last_reads lease_reads)))
 
+-- ---- what is kept of forgotten runs
+
+pub name_reads : Reads name name_at
+unfolding name_at
+name_reads = only_reads is_utf8 text text_at text_reads
+
+pub count_reads : Reads count count_at
+unfolding count_at
+count_reads =
+    parts_reads (λ (c : WorkflowCount). (c.repo, (c.path, c.runs)))
+    (λ (p : List ℕ × (List ℕ × ℕ)). record { repo = p.0; path = p.1.0; runs = p.1.1 })
+    (pair name (pair name number)) (pair_at name_at (pair_at name_at number_at)) (λ _. refl) (λ _. refl)
+    (pair_reads name (pair name number) name_at (pair_at name_at number_at) name_reads
+    (pair_reads name number name_at number_at name_reads number_reads))
+
+pub last_id_reads : Reads (only is_last_id word) last_id_at
+unfolding last_id_at
+last_id_reads = only_reads is_last_id word word_at word_reads
+
+-- the counts, and the deliveries that are kept of so many forgotten runs
+abbrev pub kept_of_forgotten : ℕ → Format (List WorkflowCount × List (List ℕ))
+kept_of_forgotten n = pair (counted 0 4294967295 count) (row (deliveries_kept n) (small_text is_delivery_byte))
+
+pub kept_of_forgotten_reads : (n : ℕ) → Reads (kept_of_forgotten n) (kept_of_forgotten_at n)
+unfolding kept_of_forgotten_at
+kept_of_forgotten_reads n =
+    pair_reads (counted 0 4294967295 count) (row (deliveries_kept n) (small_text is_delivery_byte)) (counted_at 0 4294967295 count_at)
+    (items_at (small_text_at is_delivery_byte) (deliveries_kept n))
+    (counted_reads 0 4294967295 count count_at (omega arith) count_reads)
+    (row_reads (deliveries_kept n) (small_text is_delivery_byte) (small_text_at is_delivery_byte) (small_text_reads is_delivery_byte))
+
+pub forgotten_reads : Reads forgotten forgotten_at
+unfolding forgotten_at
+forgotten_reads =
+    parts_reads (λ (f : ForgottenRuns). (f.through, (f.counts, f.deliveries)))
+    (λ (p : ℕ × (List WorkflowCount × List (List ℕ))). record { through = p.0; counts = p.1.0; deliveries = p.1.1 })
+    (follow (only is_last_id word) kept_of_forgotten) (follow_at last_id_at kept_of_forgotten_at) (λ _. refl) (λ _. refl)
+    (follow_reads (only is_last_id word) kept_of_forgotten last_id_at kept_of_forgotten_at last_id_reads kept_of_forgotten_reads)
+
 -- ---- tables
 
 pub last_lease_reads : Reads (only is_last_lease word) last_lease_at
@@ -317,14 +361,18 @@ runners_reads =
     only_reads names_rise (counted 0 4294967295 runner) (counted_at 0 4294967295 runner_at)
     (counted_reads 0 4294967295 runner runner_at (omega arith) runner_reads)
 
+pub runs_and_runners_reads : Reads runs_and_runners (pair_at runs_at runners_at)
+runs_and_runners_reads =
+    pair_reads (counted 0 100000 run) (only names_rise (counted 0 4294967295 runner)) runs_at runners_at runs_reads runners_reads
+
 pub table_reads : Reads table table_at
 unfolding table_at
 table_reads =
-    parts_reads (λ (t : TableParts). (t.last_lease, (t.runs, t.runners)))
-    (λ (p : ℕ × (List RunParts × List RunnerParts)). record { last_lease = p.0; runs = p.1.0; runners = p.1.1 })
-    (pair (only is_last_lease word) (pair (counted 0 100000 run) (only names_rise (counted 0 4294967295 runner))))
-    (pair_at last_lease_at (pair_at runs_at runners_at)) (λ _. refl) (λ _. refl)
-    (pair_reads (only is_last_lease word) (pair (counted 0 100000 run) (only names_rise (counted 0 4294967295 runner))) last_lease_at
-    (pair_at runs_at runners_at)
+    parts_reads (λ (t : TableParts). (t.last_lease, (t.forgotten, (t.runs, t.runners))))
+    (λ (p : ℕ × (ForgottenRuns × (List RunParts × List RunnerParts))). record
+    { last_lease = p.0; forgotten = p.1.0; runs = p.1.1.0; runners = p.1.1.1 })
+    (pair (only is_last_lease word) (pair forgotten runs_and_runners))
+    (pair_at last_lease_at (pair_at forgotten_at (pair_at runs_at runners_at))) (λ _. refl) (λ _. refl)
+    (pair_reads (only is_last_lease word) (pair forgotten runs_and_runners) last_lease_at (pair_at forgotten_at (pair_at runs_at runners_at))
     last_lease_reads
-    (pair_reads (counted 0 100000 run) (only names_rise (counted 0 4294967295 runner)) runs_at runners_at runs_reads runners_reads))
+    (pair_reads forgotten runs_and_runners forgotten_at (pair_at runs_at runners_at) forgotten_reads runs_and_runners_reads))

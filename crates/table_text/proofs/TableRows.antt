@@ -3,6 +3,7 @@ use Rattle.std.specs.Prelude.{◌≡◌, ℕ, List, [], ◌∷◌, ◌++◌, cod
 use Rattle.wf_value.specs.declared.outcome.JobResult.TheVariants as result
 use Rattle.wf_value.specs.declared.outcome.Outcome.TheVariants as outcome
 use Rattle.stored_tables.specs.Stored.{RunnerParts, TableParts}
+use Rattle.table_model.specs.Forgotten.{ForgottenRuns, none_forgotten}
 use Rattle.table_model.specs.Parts.{RunParts}
 use Rattle.table_model.specs.Runs.{LegState, JobState}
 use Rattle.stored_tables.specs.declared.parts.LastParts.TheVariants as last
@@ -15,13 +16,14 @@ use Rattle.table_model.specs.declared.phases.RunPhase.{RunPhase}
 use Rattle.table_model.specs.declared.phases.RunPhase.TheVariants as run_phase
 use Rattle.definitions.specs.Format.{text_bytes, word_bytes}
 use Rattle.table_text.specs.TableLengths.{table_length}
-use Rattle.table_text.specs.Tables.{is_attempt, job, names_rise, runner, run, table}
+use Rattle.table_text.specs.SecondLayout.{second_table}
+use Rattle.table_text.specs.Tables.{forgotten, is_attempt, job, names_rise, runner, run, table}
 
--- without runs or runners: twelve zero bytes
+-- without runs or runners, and with none forgotten: twenty zero bytes
 abbrev empty : TableParts
-empty = record { last_lease = 0; runs = []; runners = [] }
+empty = record { last_lease = 0; forgotten = none_forgotten; runs = []; runners = [] }
 
-empty_bytes : table.encoding empty ≡ 0 ∷ 0 ∷ 0 ∷ 0 ∷ 0 ∷ 0 ∷ 0 ∷ 0 ∷ 0 ∷ 0 ∷ 0 ∷ 0 ∷ []
+empty_bytes : table.encoding empty ≡ 0 ∷ 0 ∷ 0 ∷ 0 ∷ 0 ∷ 0 ∷ 0 ∷ 0 ∷ 0 ∷ 0 ∷ 0 ∷ 0 ∷ 0 ∷ 0 ∷ 0 ∷ 0 ∷ 0 ∷ 0 ∷ 0 ∷ 0 ∷ []
 unfolding word_bytes
 empty_bytes = refl
 
@@ -40,14 +42,14 @@ first_run = record {
 }
 
 abbrev admitted : TableParts
-admitted = record { last_lease = 0; runs = first_run ∷ []; runners = [] }
+admitted = record { last_lease = 0; forgotten = none_forgotten; runs = first_run ∷ []; runners = [] }
 
-after_the_first_admission : table_length admitted ≡ 127
+after_the_first_admission : table_length admitted ≡ 135
 after_the_first_admission = refl
 
 -- the ready leg has no lease, which is 0
 admitted_bytes : table.encoding admitted
-    ≡ (0 ∷ 0 ∷ 0 ∷ 0 ∷ 0 ∷ 0 ∷ 0 ∷ 1 ∷ 0 ∷ 0 ∷ 0 ∷ 2 ∷ 100 ∷ 49 ∷ 0 ∷ 0 ∷ 0 ∷ 4 ∷ 112 ∷ 117 ∷ 115 ∷ 104 ∷ 0 ∷ 0 ∷ 0 ∷ 81 ∷ [])
+    ≡ (0 ∷ 0 ∷ 0 ∷ 0 ∷ 0 ∷ 0 ∷ 0 ∷ 0 ∷ 0 ∷ 0 ∷ 0 ∷ 0 ∷ 0 ∷ 0 ∷ 0 ∷ 1 ∷ 0 ∷ 0 ∷ 0 ∷ 2 ∷ 100 ∷ 49 ∷ 0 ∷ 0 ∷ 0 ∷ 4 ∷ 112 ∷ 117 ∷ 115 ∷ 104 ∷ 0 ∷ 0 ∷ 0 ∷ 81 ∷ [])
     ++ first_run.admitted.body
     ++ (0 ∷ 0 ∷ 0 ∷ 1 ∷ 1 ∷ 0 ∷ 1 ∷ 0 ∷ 0 ∷ 0 ∷ 1 ∷ 2 ∷ 0 ∷ 0 ∷ 0 ∷ 0 ∷ 0 ∷ 0 ∷ 0 ∷ 0 ∷ [])
 unfolding text_bytes word_bytes
@@ -74,13 +76,13 @@ first_runner = record {
 }
 
 abbrev claimed : TableParts
-claimed = record { last_lease = 1; runs = claimed_run ∷ []; runners = first_runner ∷ [] }
+claimed = record { last_lease = 1; forgotten = none_forgotten; runs = claimed_run ∷ []; runners = first_runner ∷ [] }
 
-after_the_first_claim : table_length claimed ≡ 186
+after_the_first_claim : table_length claimed ≡ 194
 after_the_first_claim = refl
 
 claimed_bytes : table.encoding claimed
-    ≡ (0 ∷ 0 ∷ 0 ∷ 1 ∷ 0 ∷ 0 ∷ 0 ∷ 1 ∷ 0 ∷ 0 ∷ 0 ∷ 2 ∷ 100 ∷ 49 ∷ 0 ∷ 0 ∷ 0 ∷ 4 ∷ 112 ∷ 117 ∷ 115 ∷ 104 ∷ 0 ∷ 0 ∷ 0 ∷ 81 ∷ [])
+    ≡ (0 ∷ 0 ∷ 0 ∷ 1 ∷ 0 ∷ 0 ∷ 0 ∷ 0 ∷ 0 ∷ 0 ∷ 0 ∷ 0 ∷ 0 ∷ 0 ∷ 0 ∷ 1 ∷ 0 ∷ 0 ∷ 0 ∷ 2 ∷ 100 ∷ 49 ∷ 0 ∷ 0 ∷ 0 ∷ 4 ∷ 112 ∷ 117 ∷ 115 ∷ 104 ∷ 0 ∷ 0 ∷ 0 ∷ 81 ∷ [])
     ++ first_run.admitted.body
     ++ (0 ∷ 0 ∷ 0 ∷ 1 ∷ 1 ∷ 0 ∷ 1 ∷ 0 ∷ 0 ∷ 0 ∷ 1 ∷ 3 ∷ 0 ∷ 0 ∷ 0 ∷ 1 ∷ 0 ∷ 0 ∷ 0 ∷ 1 ∷ 0 ∷ 0 ∷ 0 ∷ 2 ∷ 114 ∷ 49 ∷ 0 ∷ 0 ∷ 0 ∷ 1
     ∷ 2 ∷ 0 ∷ 0 ∷ 0 ∷ 2 ∷ 114 ∷ 49 ∷ 0 ∷ 0 ∷ 0 ∷ 1 ∷ 0 ∷ 0 ∷ 0 ∷ 1 ∷ 0 ∷ 0 ∷ 0 ∷ 5 ∷ 108 ∷ 105 ∷ 110 ∷ 117 ∷ 120
@@ -227,8 +229,8 @@ unfolding text_bytes word_bytes
 reporting_runner_bytes = refl
 
 -- the last lease, no run, and two runners
-two_runners_bytes : table.encoding (record { last_lease = 258; runs = []; runners = idle_runner ∷ leased_runner ∷ [] })
-    ≡ (0 ∷ 0 ∷ 1 ∷ 2 ∷ 0 ∷ 0 ∷ 0 ∷ 0 ∷ 0 ∷ 0 ∷ 0 ∷ 2 ∷ []) ++ runner.encoding idle_runner ++ runner.encoding leased_runner
+two_runners_bytes : table.encoding (record { last_lease = 258; forgotten = none_forgotten; runs = []; runners = idle_runner ∷ leased_runner ∷ [] })
+    ≡ (0 ∷ 0 ∷ 1 ∷ 2 ∷ 0 ∷ 0 ∷ 0 ∷ 0 ∷ 0 ∷ 0 ∷ 0 ∷ 0 ∷ 0 ∷ 0 ∷ 0 ∷ 0 ∷ 0 ∷ 0 ∷ 0 ∷ 2 ∷ []) ++ runner.encoding idle_runner ++ runner.encoding leased_runner
 unfolding text_bytes word_bytes
 two_runners_bytes = refl
 
@@ -241,3 +243,25 @@ leased_before_idle = refl
 
 no_name_twice : names_rise (idle_runner ∷ idle_runner ∷ []) ≡ false
 no_name_twice = refl
+
+-- ---- what is kept of forgotten runs: two runs of one workflow, with their deliveries
+
+abbrev two_forgotten : ForgottenRuns
+two_forgotten = record {
+  through = 2;
+  counts = record { repo = codes "o/r"; path = codes "ci.json"; runs = 2 } ∷ [];
+  deliveries = codes "d1" ∷ codes "d2" ∷ [];
+}
+
+two_forgotten_bytes : forgotten.encoding two_forgotten
+    ≡ 0 ∷ 0 ∷ 0 ∷ 2 ∷ 0 ∷ 0 ∷ 0 ∷ 1 ∷ 0 ∷ 0 ∷ 0 ∷ 3 ∷ 111 ∷ 47 ∷ 114 ∷ 0 ∷ 0 ∷ 0 ∷ 7
+    ∷ 99 ∷ 105 ∷ 46 ∷ 106 ∷ 115 ∷ 111 ∷ 110 ∷ 0 ∷ 0 ∷ 0 ∷ 2 ∷ 0 ∷ 0 ∷ 0 ∷ 2 ∷ 100 ∷ 49 ∷ 0 ∷ 0 ∷ 0 ∷ 2 ∷ 100 ∷ 50 ∷ []
+unfolding text_bytes word_bytes
+two_forgotten_bytes = refl
+
+-- the second layout has nothing of them
+second_two_runners_bytes : second_table.encoding (record
+    { last_lease = 258; forgotten = none_forgotten; runs = []; runners = idle_runner ∷ leased_runner ∷ [] })
+    ≡ (0 ∷ 0 ∷ 1 ∷ 2 ∷ 0 ∷ 0 ∷ 0 ∷ 0 ∷ 0 ∷ 0 ∷ 0 ∷ 2 ∷ []) ++ runner.encoding idle_runner ++ runner.encoding leased_runner
+unfolding text_bytes word_bytes
+second_two_runners_bytes = refl

@@ -14,7 +14,7 @@ use Rattle.run_plan.specs.declared.last_command.LastCommand.TheVariants as last
 use Rattle.table_model.specs.Parts.{stored_run}
 use Rattle.table_model.specs.Runs.{run_at, RunState}
 use Rattle.table_model.proofs.Found.{each_at}
-use Rattle.table_model.specs.Sound.{IdsFollow, IsOfALeg, IsSound, KeptIsOfALeg}
+use Rattle.table_model.specs.Sound.{IsOfALeg, IsSound, KeptIsOfALeg}
 use Rattle.stored_tables.specs.Stored.{RunnerParts, TableParts}
 use Rattle.stored_tables.specs.TableOf.{AreRunnersAs, IsLastAs, IsNoTable, IsPlacedAs, IsRunnerAs, IsStoredAs}
 use Rattle.table_model.specs.TableState.{RunnerState, TableState}
@@ -22,7 +22,7 @@ use Rattle.stored_tables.specs.declared.parts.LastParts.{LastParts}
 use Rattle.stored_tables.specs.declared.parts.LastParts.TheVariants as stored
 use Rattle.stored_tables.specs.declared.parts.StoredLease.{StoredLease}
 use Rattle.stored_tables.specs.declared.parts.StoredSite.{StoredSite}
-use Rattle.stored_tables.proofs.StoredOnce.{run_told, same_table}
+use Rattle.stored_tables.proofs.StoredOnce.{same_table}
 use Rattle.command_encodings.specs.Commands.{batch}
 use Rattle.table_text.specs.FirstLayout.{first_batch, first_last_command, first_run, first_runner, first_table, is_in_first_layout}
 use Rattle.definitions.specs.Format.{NoneBeginsAnother, OpensWith, ReadsPrefix}
@@ -39,28 +39,25 @@ abbrev AreFirst : List RunState → Type 0
 AreFirst runs = AllByRecursion first_run.Takes (map stored_run runs)
 
 -- a kept lease is of its run's current attempt
-placed : (most : ℕ) (runs : List RunState) → IdsFollow runs → (kept : KeptLease) → AreFirst runs → IsOfALeg most runs kept
-    → IsPlacedAs runs None kept
-placed most runs follow kept first of =
-    let attempts : RunState → ℕ = λ (x : RunState). x.attempt in
-    let r : kept.lease_reply.run - 1 ≡ of.place.run = omega (arith, run_told most runs follow kept of) in
+placed : (most : ℕ) (runs : List RunState) (kept : KeptLease) → AreFirst runs → (of : IsOfALeg most runs kept) → IsPlacedAs of.run None kept
+placed most runs kept first of =
     let there : slice_get (map stored_run runs) of.place.run ≡ Some (stored_run of.run) =
     slice_get-map stored_run runs of.place.run ∙ ap (option_map stored_run) of.run_is in
     let one : of.run.attempt ≡ 1 = (each_at first_run.Takes (map stored_run runs) of.place.run (stored_run of.run) first there).1.0 in
-    let present : kept.attempt ≡ of.run.attempt = omega (arith, one, of.attempt.0, of.attempt.1) in
-    present ∙ sym (ap (λ k. option_map_or attempts (run_at runs k) 0) r ∙ ap (λ o. option_map_or attempts o 0) of.run_is)
+    omega (arith, one, of.attempt.0, of.attempt.1)
 
-last_is : (most : ℕ) (runs : List RunState) → IdsFollow runs → (x : LastCommand) → AreFirst runs → KeptIsOfALeg most runs x
+last_is : (most : ℕ) (runs : List RunState) (x : LastCommand) → AreFirst runs → KeptIsOfALeg most runs x
     → IsLastAs most runs (first_stored_last x) x
-last_is most runs follow (last.Claim claim given.Nothing) first of = (refl, tt)
-last_is most runs follow (last.Claim claim (given.Lease kept)) first of =
-    (refl, record { lease = refl; place = placed most runs follow kept first of; is_of_a_leg = of })
-last_is most runs follow (last.Done report) first of = refl
+last_is most runs (last.Claim claim given.Nothing) first of = (refl, tt)
+last_is most runs (last.Claim claim (given.Lease kept)) first of =
+    (refl, record { lease = refl; is_of_a_leg = of; place = placed most runs kept first of })
+last_is most runs (last.Done report) first of = refl
 
 first_is_stored : (t : TableState) → IsSound t → AreFirst t.runs → IsStoredAs (first_stored_table t) t
 first_is_stored t s first = record {
   is_sound = s;
   last_lease = refl;
+  forgotten = refl;
   runs = refl;
   runners = record {
     as_many = sym (length-map t.runners first_stored_runner);
@@ -71,7 +68,7 @@ first_is_stored t s first = record {
         subst (λ (p : RunnerParts). IsRunnerAs t.last_lease t.runs p x) is (record {
           name = refl;
           number = refl;
-          last = last_is t.last_lease t.runs s.ids_follow x.last first (s.kept_leases_are_of_legs k x at_x);
+          last = last_is t.last_lease t.runs x.last first (s.kept_leases_are_of_legs k x at_x);
           holds = refl;
         }));
   };
@@ -115,7 +112,7 @@ first_stored_again : (parts : TableParts) (t : TableState) → AreFirstRunners p
     → first_stored_table t ≡ parts
 first_stored_again parts t takes is =
     let runners = runners_again t.last_lease t.runs parts.runners t.runners takes is.runners in
-    λ i. record { last_lease = is.last_lease i; runs = is.runs i; runners = runners i }
+    λ i. record { last_lease = is.last_lease i; forgotten = is.forgotten i; runs = is.runs i; runners = runners i }
 
 -- ---- one table
 
@@ -123,8 +120,8 @@ first_stored_again parts t takes is =
 one_stored : (one two : TableState) → whole_first_table.Takes one → whole_first_table.Takes two
     → first_stored_table one ≡ first_stored_table two → one ≡ two
 one_stored one two first second same =
-    let here = first_is_stored one first.0 first.1.1.0.2 in
-    let there = first_is_stored two second.0 second.1.1.0.2 in
+    let here = first_is_stored one first.0 first.1.1.1.0.2 in
+    let there = first_is_stored two second.0 second.1.1.1.0.2 in
     let again : IsStoredAs (first_stored_table one) two = subst (λ (s : TableParts). IsStoredAs s two) (sym same) there in
     same_table (first_stored_table one) one two here again
 
@@ -147,12 +144,12 @@ none_of_first_parts bytes rest parts opens none t other again =
     let one = none_begins first_table first_table_at first_table_reads (first_table.encoding (first_stored_table t))
     (first_table.encoding parts) other rest (first_stored_table t) parts
     (again.0.1, refl) (opens.0, refl) same in
-    none t (subst (λ (s : TableParts). IsStoredAs s t) one.1 (first_is_stored t again.0.0 again.0.1.1.0.2))
+    none t (subst (λ (s : TableParts). IsStoredAs s t) one.1 (first_is_stored t again.0.0 again.0.1.1.1.0.2))
 
 pub one_of_first_parts : (bytes rest : List ℕ) (parts : TableParts) (t : TableState) → OpensWith first_table bytes parts rest
     → IsStoredAs parts t → OpensWith whole_first_table bytes t rest
 one_of_first_parts bytes rest parts t opens is =
-    let same : first_stored_table t ≡ parts = first_stored_again parts t opens.0.1.1.0.2 is in (
+    let same : first_stored_table t ≡ parts = first_stored_again parts t opens.0.1.1.1.0.2 is in (
       (is.is_sound, subst first_table.Takes (sym same) opens.0),
       opens.1 ∙ ap (λ (s : TableParts). first_table.encoding s ++ rest) (sym same),
     )

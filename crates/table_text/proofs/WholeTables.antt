@@ -19,7 +19,7 @@ use Rattle.command_encodings.proofs.Readers.{none_begins}
 use Rattle.table_text.proofs.TableReaders.{table_reads}
 
 -- sound tables with the same stored parts are equal
-one_stored : (one two : TableState) → IsSound one → IsSound two → stored_table one ≡ stored_table two → one ≡ two
+pub one_stored : (one two : TableState) → IsSound one → IsSound two → stored_table one ≡ stored_table two → one ≡ two
 one_stored one two first second same =
     same_table (stored_table one) one two (is_stored one first)
     (subst (λ (s : TableParts). IsStoredAs s two) (sym same) (is_stored two second))
@@ -54,13 +54,13 @@ last_has_place (last.Claim claim None) takes = tt
 last_has_place (last.Claim claim (Some l)) takes = has_place l.place takes.1.1
 last_has_place (last.Done report) takes = tt
 
-have_places : (runners : List RunnerParts) → AllByRecursion runner.Takes runners → HavePlaces runners
+pub have_places : (runners : List RunnerParts) → AllByRecursion runner.Takes runners → HavePlaces runners
 have_places runners takes k part at = last_has_place part.last (each_at runner.Takes runners k part takes at).1.1.0
 
 pub one_of_parts : (bytes rest : List ℕ) (parts : TableParts) (t : TableState) → OpensWith table bytes parts rest → IsStoredAs parts t
     → OpensWith whole_table bytes t rest
 one_of_parts bytes rest parts t opens is =
-    let same : stored_table t ≡ parts = stored_again parts t (have_places parts.runners opens.0.1.1.0.2) is in (
+    let same : stored_table t ≡ parts = stored_again parts t (have_places parts.runners opens.0.1.1.1.0.2) is in (
       (is.is_sound, subst table.Takes (sym same) opens.0),
       opens.1 ∙ ap (λ (s : TableParts). table.encoding s ++ rest) (sym same),
     )

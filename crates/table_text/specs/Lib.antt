@@ -1,4 +1,5 @@
 pub mod FirstLayout
+pub mod SecondLayout
 pub mod TableLengths
 pub mod Tables
 pub mod inner

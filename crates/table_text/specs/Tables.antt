@@ -1,14 +1,16 @@
 -- The encoding of a table.
-use Rattle.std.specs.Prelude.{ℕ, List, [], ◌∷◌, length, ◌&&◌, Bool, true, false, not, nat_le, Option, Some, None}
+use Rattle.std.specs.Prelude.{ℕ, List, [], ◌∷◌, length, ◌&&◌, Bool, true, false, not, min, nat_le, Option, Some, None}
+use Rattle.std.specs.Str.{is_utf8}
 use Rattle.definitions.specs.Limits.{last_attempt, last_number, max_runs}
 use Rattle.definitions.specs.Rising.{rises_by}
 use Rattle.wf_value.specs.declared.outcome.JobResult.TheVariants as result
 use Rattle.wf_value.specs.declared.outcome.Outcome.TheVariants as outcome
-use Rattle.definitions.specs.SmallText.{Admitted, is_runner_byte}
+use Rattle.definitions.specs.SmallText.{Admitted, is_delivery_byte, is_runner_byte}
 use Rattle.run_plan.specs.PlanOf.{plan_of}
 use Rattle.run_plan.specs.declared.command.Command.{Command}
 use Rattle.run_plan.specs.declared.command.Command.TheVariants as requested
 use Rattle.stored_tables.specs.Stored.{RunnerParts, TableParts, is_new, stored_table}
+use Rattle.table_model.specs.Forgotten.{ForgottenRuns, WorkflowCount, max_kept_deliveries}
 use Rattle.table_model.specs.Parts.{RunParts}
 use Rattle.table_model.specs.Runs.{LegState, JobState}
 use Rattle.stored_tables.specs.declared.parts.LastParts.{LastParts}
@@ -24,12 +26,12 @@ use Rattle.table_model.specs.declared.phases.RunPhase.TheVariants as run_phase
 use Rattle.table_text.specs.declared.kept.StoredReply.{StoredReply}
 use Rattle.table_text.specs.declared.kept.StoredReply.TheVariants as replied
 use Rattle.command_encodings.specs.Commands.{admit, command, number, small_text}
-use Rattle.definitions.specs.Format.{Format, byte, counted, follow, only, pair, parts, present, row, word, word_bytes}
+use Rattle.definitions.specs.Format.{Format, byte, counted, follow, only, pair, parts, present, row, text, word, word_bytes}
 use Rattle.table_model.specs.Sound.{IsSound}
 use Rattle.table_model.specs.TableState.{TableState}
 
--- ---- the encoding of a table, field by field. The bytes of a run do not contain the number of its jobs: it follows from
--- the body's plan. This is defined by this project.
+-- ---- the encoding of a table, field by field, in the third layout, which is the one written. The bytes of a run do not contain the number of
+-- its jobs: it follows from the body's plan. This is defined by this project.
 
 -- ---- leases
 
@@ -44,6 +46,30 @@ IsLease (Some n) = number.Takes n
 
 abbrev pub lease : Format (Option ℕ)
 lease = record { Takes = IsLease; encoding = λ l. word_bytes (lease_word l) }
+
+-- ---- what is kept of forgotten runs
+
+-- a repository or a path, in UTF-8
+abbrev pub name : Format (List ℕ)
+name = only is_utf8 text
+
+-- a workflow, and how many of its runs are forgotten
+abbrev pub count : Format WorkflowCount
+count = parts (λ (c : WorkflowCount). (c.repo, (c.path, c.runs))) (pair name (pair name number))
+
+-- up to 999,999,999
+abbrev pub is_last_id : ℕ → Bool
+is_last_id n = nat_le n last_number
+
+-- of how many of the last forgotten runs the deliveries are kept, where so many are forgotten
+abbrev pub deliveries_kept : ℕ → ℕ
+deliveries_kept forgotten = min forgotten max_kept_deliveries
+
+-- how many are forgotten, the counts of their workflows, and the deliveries of the last of them without a count
+abbrev pub forgotten : Format ForgottenRuns
+forgotten = parts (λ (f : ForgottenRuns). (f.through, (f.counts, f.deliveries)))
+    (follow (only is_last_id word)
+    (λ n. pair (counted 0 4294967295 count) (row (deliveries_kept n) (small_text is_delivery_byte))))
 
 -- ---- runs
 
@@ -145,10 +171,14 @@ is_last_lease n = nat_le n last_number
 abbrev pub names_rise : List RunnerParts → Bool
 names_rise runners = rises_by (λ r. r.name) runners
 
--- the last lease, the runs in the order of their ids, and the runners in the order of their names
+-- the runs in the order of their ids, and the runners in the order of their names
+abbrev pub runs_and_runners : Format (List RunParts × List RunnerParts)
+runs_and_runners = pair (counted 0 max_runs run) (only names_rise (counted 0 4294967295 runner))
+
+-- the last lease, what is kept of the forgotten runs, the other runs, and the runners
 abbrev pub table : Format TableParts
-table = parts (λ (t : TableParts). (t.last_lease, (t.runs, t.runners)))
-    (pair (only is_last_lease word) (pair (counted 0 max_runs run) (only names_rise (counted 0 4294967295 runner))))
+table = parts (λ (t : TableParts). (t.last_lease, (t.forgotten, (t.runs, t.runners))))
+    (pair (only is_last_lease word) (pair forgotten runs_and_runners))
 
 -- ---- the encoding of a whole table: a sound table is encoded as its stored parts.
 

@@ -1,5 +1,5 @@
 //! Reads the encodings of the first layout of an area: tables whose runs have no attempts and whose kept leases have no
-//! places, and batches without the command that asks for an attempt. Nothing writes this layout.
+//! places, and batches without the commands of later layouts. No table is written in this layout.
 
 ghost use Rattle.std.specs.Prelude.{◌≡◌, IfErr, IfOk};
 ghost use Rattle.std.specs.List.{list_all};
@@ -52,12 +52,12 @@ pub fn read_first_table(alloc: Global, bytes: &[u8]) -> Result<Option<(Table, &[
 }
 
 /// Whether the first layout has an encoding of the command. It has one of every command except the one that asks for an
-/// attempt.
+/// attempt and those that forget.
 pub fn is_in_first_layout(command: &Command) -> bool
     ensures { result ≡ is_in_first_layout command.now }
 {
     match command {
-        Command::Rerun(_) => false,
+        Command::Rerun(_) | Command::Forget(_) | Command::Discharge(_) => false,
         Command::Admit(_) | Command::Claim(_) | Command::Done(_) | Command::Beat(_) => true,
         Command::Cancel(_) | Command::Lost(_) | Command::Look(_) | Command::Fetch(_) => true,
     }

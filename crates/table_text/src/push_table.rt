@@ -11,6 +11,7 @@ ghost use Rattle.table_text.specs.Tables.{table};
 ghost use Rattle.command_encodings.specs.inner.Writing.{Keeps};
 ghost use Rattle.table_text.specs.inner.Writing.{HasByte, JobHasBytes, KeptHasBytes, RunHasBytes};
 
+use crate::push_forgotten::push_forgotten;
 use crate::push_list::{Push, push_list};
 use command_encodings::{
     push_admit, push_claim, push_done, push_number, push_small_text, push_word,
@@ -251,6 +252,7 @@ pub(crate) fn push_table(out: &mut Vec<u8>, value: &Table) -> Result<(), AllocEr
     let runs = value.runs();
     let runners = value.runners();
     push_word(out, value.last_lease())?;
+    push_forgotten(out, value.forgotten())?;
     push_word(out, runs.len() as u32)?;
     push_list(out, runs)?;
     push_word(out, runners.len() as u32)?;

@@ -13,10 +13,11 @@ use wf_value::{Code, Refusal};
 
 /// The parts of the table whose encoding is a prefix of the bytes, and the bytes after it; `None` if no prefix encodes
 /// a table. The only error is 50, out of memory, which says nothing about the bytes.
-/// Promise (Encodings): What is read of tables, in both layouts, is the value whose encoding is at the front, with the bytes after it, and
-///   `None` exactly where no prefix is an encoding
-/// By: `table_text::{read_parts, read_table, read_first_batch, read_first_table}`, `prefix`, `refused`; `table_text::is_in_first_layout`
-/// Refusal (The layers below): `table_text`: `read_command`, `read_batch`, `read_parts`, `read_table`, `read_first_batch`, `read_first_table`
+/// Promise (Encodings): What is read of tables, in each layout, is the value whose encoding is at the front, with the bytes after it, and
+///   `None` exactly where no prefix is one
+/// By: `table_text::{read_parts, read_table, read_first_batch, read_first_table, read_second_batch, read_second_table}`, `prefix`, `refused`
+/// Refusal (The layers below): `table_text`: `read_command`, `read_batch`, `read_parts`, `read_table`, `read_first_batch`, `read_first_table`,
+///   `read_second_batch`, `read_second_table`
 /// When: `None`: exactly, with memory, if no prefix of the bytes is an encoding. 50
 /// Afterwards: nothing is made
 /// By: `prefix`, `refused`

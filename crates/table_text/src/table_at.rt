@@ -4,6 +4,7 @@ ghost use Rattle.command_encodings.specs.inner.Reading.{Finds, kept};
 ghost use Rattle.table_text.specs.inner.ReadingTables.{last_lease_at, table_at};
 ghost use Rattle.table_text.specs.Tables.{is_last_lease};
 
+use crate::forgotten_at::forgotten_at;
 use crate::runners_at::runners_at;
 use crate::runs_at::runs_at;
 use command_encodings::{DecodeError, word_at};
@@ -37,10 +38,12 @@ pub(crate) fn table_at(alloc: Global, bytes: &[u8]) -> Result<(TableParts, &[u8]
     ensures { Finds (λ f. (f.0, f.1.now)) result (table_at bytes.now) }
 {
     let (last_lease, rest) = last_lease_at(bytes)?;
+    let (forgotten, rest) = forgotten_at(alloc, rest)?;
     let (runs, rest) = runs_at(alloc, rest)?;
     let (runners, rest) = runners_at(alloc, rest)?;
     let parts = TableParts {
         last_lease,
+        forgotten,
         runs: Sequence::new(runs),
         runners: Sequence::new(runners),
     };

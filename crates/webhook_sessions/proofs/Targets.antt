@@ -4,14 +4,14 @@ use Rattle.std.specs.List.{list_all, position, position_or_len}
 use Rattle.std.specs.Option.{option_map_or}
 use Rattle.std.specs.Char.{is_ascii_digit}
 use Rattle.std.specs.Str.{bytes_eq}
-use Rattle.std.proofs.Common.{sym, subst, ap, ap₂, ◌∙◌, inl, inr, take-append-drop, length-append, arith}
+use Rattle.std.proofs.Common.{sym, subst, ap, ap₂, ◌∙◌, inl, inr, take-append-drop, length-append, append_assoc, arith}
 use Rattle.std.proofs.Math.Seq.{drop-append_seam, take-append_seam}
 use Rattle.std.proofs.lemmas.Bool.{and_parts, both_ways, cases_Bool, eqb-true, le-ltb, lt-ltb}
 use Rattle.std.proofs.lemmas.List.{append-nil}
 use Rattle.std.proofs.lemmas.Slice.Eq.{bytes_eq-Decides}
 use Rattle.definitions.specs.SmallText.{found_if, is_number, number_of, runner_name_of}
 use Rattle.webhook_sessions.specs.declared.path.Path.{Path}
-use Rattle.webhook_sessions.specs.declared.path.Path.TheVariants.{Events, Run, Body, Cancel, Attempt, Lost}
+use Rattle.webhook_sessions.specs.declared.path.Path.TheVariants.{Events, Run, Body, Cancel, Attempt, Forget, Lost, Discharge}
 use Rattle.webhook_sessions.specs.Paths.{IsTargetOf, after_prefix, at_slash, before_end, part_of_run, path_of, run_path, runner_path}
 
 none_is_some : {X : Type 0} (x : X) → None ≡ Some x → ⊥
@@ -61,24 +61,27 @@ attempt_is text rest run (Some digits) p number b e =
     subst (λ q. IsTargetOf q (codes "/runs/" ++ text ++ rest)) m.2
     (text, digits, number, m.1, ap (λ l. codes "/runs/" ++ text ++ l) (prefix_is (codes "/attempts/") rest digits b))
 
-part_is : (text rest : List ℕ) (run : ℕ) (body cancel : Bool) (p : Path) → number_of text ≡ Some run
-    → bytes_eq rest (codes "/body") ≡ body → bytes_eq rest (codes "/cancel") ≡ cancel
-    → cond body (Some (Body run)) (cond cancel (Some (Cancel run))
-    (option_map (λ attempt. Attempt (record { run = run; attempt = attempt })) (option_and_then number_of (after_prefix (codes "/attempts/") rest))))
+part_is : (text rest : List ℕ) (run : ℕ) (body cancel forget : Bool) (p : Path) → number_of text ≡ Some run
+    → bytes_eq rest (codes "/body") ≡ body → bytes_eq rest (codes "/cancel") ≡ cancel → bytes_eq rest (codes "/forget") ≡ forget
+    → cond body (Some (Body run)) (cond cancel (Some (Cancel run)) (cond forget (Some (Forget run))
+    (option_map (λ attempt. Attempt (record { run = run; attempt = attempt })) (option_and_then number_of (after_prefix (codes "/attempts/") rest)))))
     ≡ Some p
     → IsTargetOf p (codes "/runs/" ++ text ++ rest)
-part_is text rest run true cancel p number b c e =
+part_is text rest run true cancel forget p number b c f e =
     subst (λ q. IsTargetOf q (codes "/runs/" ++ text ++ rest)) (same_some (Body run) p e)
     (text, number, ap (λ l. codes "/runs/" ++ text ++ l) ((bytes_eq-Decides rest (codes "/body")).0 b))
-part_is text rest run false true p number b c e =
+part_is text rest run false true forget p number b c f e =
     subst (λ q. IsTargetOf q (codes "/runs/" ++ text ++ rest)) (same_some (Cancel run) p e)
     (text, number, ap (λ l. codes "/runs/" ++ text ++ l) ((bytes_eq-Decides rest (codes "/cancel")).0 c))
-part_is text rest run false false p number b c e = attempt_is text rest run _ p number refl e
+part_is text rest run false false true p number b c f e =
+    subst (λ q. IsTargetOf q (codes "/runs/" ++ text ++ rest)) (same_some (Forget run) p e)
+    (text, number, ap (λ l. codes "/runs/" ++ text ++ l) ((bytes_eq-Decides rest (codes "/forget")).0 f))
+part_is text rest run false false false p number b c f e = attempt_is text rest run _ p number refl e
 
 numbered : (text rest : List ℕ) (number : Option ℕ) (p : Path) → number_of text ≡ number
     → option_and_then (λ run. part_of_run run rest) number ≡ Some p → IsTargetOf p (codes "/runs/" ++ text ++ rest)
 numbered text rest None p is e = absurd (none_is_some p e)
-numbered text rest (Some run) p is e = part_is text rest run _ _ p is refl refl e
+numbered text rest (Some run) p is e = part_is text rest run _ _ _ p is refl refl refl e
 
 run_is : (rest : List ℕ) (parts : Option (List ℕ × List ℕ)) (p : Path) → at_slash rest ≡ parts
     → option_map_or (λ q. option_and_then (λ run. part_of_run run q.1) (number_of q.0)) parts (option_map Run (number_of rest)) ≡ Some p
@@ -89,9 +92,18 @@ run_is rest None p none e =
     let m = mapped Run (number_of rest) p e in
     subst (λ q. IsTargetOf q (codes "/runs/" ++ rest)) m.2 (rest, m.1, refl)
 
+discharge_is : (rest : List ℕ) (left : Option (List ℕ)) (p : Path) → before_end (codes "/forget") rest ≡ left
+    → option_map_or (λ name. option_map Discharge (runner_name_of name)) left None ≡ Some p → IsTargetOf p (codes "/runners/" ++ rest)
+discharge_is rest None p none e = absurd (none_is_some p e)
+discharge_is rest (Some name) p left e =
+    let m = mapped Discharge (runner_name_of name) p e in
+    subst (λ q. IsTargetOf q (codes "/runners/" ++ rest)) m.2 (name, m.1, ap (λ l. codes "/runners/" ++ l) (end_is (codes "/forget") rest name left))
+
 runner_is : (rest : List ℕ) (lost : Option (List ℕ)) (p : Path) → before_end (codes "/lost") rest ≡ lost
-    → option_map_or (λ name. option_map Lost (runner_name_of name)) lost None ≡ Some p → IsTargetOf p (codes "/runners/" ++ rest)
-runner_is rest None p none e = absurd (none_is_some p e)
+    → option_map_or (λ name. option_map Lost (runner_name_of name)) lost
+    (option_map_or (λ name. option_map Discharge (runner_name_of name)) (before_end (codes "/forget") rest) None) ≡ Some p
+    → IsTargetOf p (codes "/runners/" ++ rest)
+runner_is rest None p none e = discharge_is rest _ p refl e
 runner_is rest (Some name) p lost e =
     let m = mapped Lost (runner_name_of name) p e in
     subst (λ q. IsTargetOf q (codes "/runners/" ++ rest)) m.2 (name, m.1, ap (λ l. codes "/runners/" ++ l) (end_is (codes "/lost") rest name lost))
@@ -163,6 +175,19 @@ end_of end text same =
     ap (λ n. found_if (bytes_eq (drop n (text ++ end)) end) (take n (text ++ end))) offset
     ∙ ap₂ (λ d t. found_if (bytes_eq d end) t) (drop-append_seam text end) (take-append_seam text end) ∙ ap (λ b. found_if b text) same
 
+-- bytes with another end of the same length
+other_end : (end text other : List ℕ) → length other ≡ length end → bytes_eq other end ≡ false → before_end end (text ++ other) ≡ None
+other_end end text other as_long differs =
+    let long = length-append text other in
+    let offset : length (text ++ other) - length end ≡ length text = omega (arith, as_long) in
+    ap (λ n. found_if (bytes_eq (drop n (text ++ other)) end) (take n (text ++ other))) offset
+    ∙ ap (λ d. found_if (bytes_eq d end) (take (length text) (text ++ other))) (drop-append_seam text other)
+    ∙ ap (λ b. found_if b (take (length text) (text ++ other))) differs
+
+-- what the bytes after `/runners/` name if they do not end with `/lost`
+abbrev discharged : List ℕ → Option Path
+discharged rest = option_map_or (λ name. option_map Discharge (runner_name_of name)) (before_end (codes "/forget") rest) None
+
 run_alone : (text : List ℕ) (n : ℕ) → number_of text ≡ Some n → run_path text ≡ Some (Run n)
 run_alone text n number =
     ap (λ s. option_map_or (λ q. option_and_then (λ run. part_of_run run q.1) (number_of q.0)) s (option_map Run (number_of text)))
@@ -178,11 +203,18 @@ spelled Events target e = ap path_of e
 spelled (Run n) target (text, number, e) = ap path_of e ∙ run_alone text n number
 spelled (Body n) target (text, number, e) = ap path_of e ∙ part_by text (codes "body") n number
 spelled (Cancel n) target (text, number, e) = ap path_of e ∙ part_by text (codes "cancel") n number
+spelled (Forget n) target (text, number, e) = ap path_of e ∙ part_by text (codes "forget") n number
 spelled (Attempt a) target (run, attempt, number, second, e) =
     ap path_of e ∙ part_by run (codes "attempts/" ++ attempt) a.run number
     ∙ ap (option_map (λ n. Attempt (record { run = a.run; attempt = n }))) second
 spelled (Lost runner) target (name, known, e) =
-    ap path_of e ∙ ap (λ o. option_map_or (λ n. option_map Lost (runner_name_of n)) o None) (end_of (codes "/lost") name refl) ∙ ap (option_map Lost) known
+    ap path_of e ∙ ap (λ o. option_map_or (λ n. option_map Lost (runner_name_of n)) o (discharged (name ++ codes "/lost")))
+    (end_of (codes "/lost") name refl) ∙ ap (option_map Lost) known
+spelled (Discharge runner) target (name, known, e) =
+    ap path_of e
+    ∙ ap (λ o. option_map_or (λ n. option_map Lost (runner_name_of n)) o (discharged (name ++ codes "/forget")))
+    (ap (before_end (codes "/lost")) (sym (append_assoc name (codes "/f") (codes "orget"))) ∙ other_end (codes "/lost") (name ++ codes "/f") (codes "orget") refl refl)
+    ∙ ap (λ o. option_map_or (λ n. option_map Discharge (runner_name_of n)) o None) (end_of (codes "/forget") name refl) ∙ ap (option_map Discharge) known
 
 pub path_of_target : (target : List ℕ) (p : Path) → IsTargetOf p target → path_of target ≡ Some p
 path_of_target target p is = spelled p target is

@@ -13,7 +13,7 @@ use Rattle.http1.specs.Fields.{Header}
 use Rattle.webhook_sessions.specs.declared.fault.Fault.{Fault}
 use Rattle.webhook_sessions.specs.declared.fault.Fault.TheVariants.{NoLength, NoPath, WrongMethod, Unprocessable}
 use Rattle.webhook_sessions.specs.declared.path.Path.{Path}
-use Rattle.webhook_sessions.specs.declared.path.Path.TheVariants.{Events, Run, Body, Cancel, Attempt, Lost}
+use Rattle.webhook_sessions.specs.declared.path.Path.TheVariants.{Events, Run, Body, Cancel, Attempt, Forget, Lost, Discharge}
 use Rattle.webhook_sessions.specs.EventHeaders.{event_headers}
 use Rattle.webhook_sessions.specs.Fields.{lists_close}
 use Rattle.webhook_sessions.specs.Heading.{Heading}
@@ -56,7 +56,9 @@ command_at (Run run) fields body = demand.Command (command.Look run)
 command_at (Body run) fields body = demand.Command (command.Fetch run)
 command_at (Cancel run) fields body = demand.Command (command.Cancel run)
 command_at (Attempt a) fields body = demand.Command (command.Rerun a)
+command_at (Forget run) fields body = demand.Command (command.Forget run)
 command_at (Lost runner) fields body = demand.Command (command.Lost runner)
+command_at (Discharge runner) fields body = demand.Command (command.Discharge runner)
 
 abbrev pub demand_at : Option Path → Heading → List ℕ → Demand Fault
 demand_at None head body = demand.Fault NoPath

@@ -5,7 +5,7 @@ use Rattle.std.specs.Option.{option_map_or}
 use Rattle.std.specs.Str.{bytes_eq}
 use Rattle.definitions.specs.SmallText.{found_if, number_of, runner_name_of}
 use Rattle.webhook_sessions.specs.declared.path.Path.{Path}
-use Rattle.webhook_sessions.specs.declared.path.Path.TheVariants.{Events, Run, Body, Cancel, Attempt, Lost}
+use Rattle.webhook_sessions.specs.declared.path.Path.TheVariants.{Events, Run, Body, Cancel, Attempt, Forget, Lost, Discharge}
 
 -- the bytes after a prefix, if they begin with it
 abbrev pub after_prefix : List ℕ → List ℕ → Option (List ℕ)
@@ -21,12 +21,13 @@ before_end end bytes =
 abbrev pub at_slash : List ℕ → Option (List ℕ × List ℕ)
 at_slash bytes = option_map (λ n. (take n bytes, drop n bytes)) (position (λ b. b == 47) bytes)
 
--- after `/runs/RUN`: `/body`, `/cancel` or `/attempts/`ATTEMPT
+-- after `/runs/RUN`: `/body`, `/cancel`, `/forget` or `/attempts/`ATTEMPT
 abbrev pub part_of_run : ℕ → List ℕ → Option Path
 part_of_run run rest =
     if bytes_eq rest (codes "/body") then Some (Body run)
     else (if bytes_eq rest (codes "/cancel") then Some (Cancel run)
-    else option_map (λ attempt. Attempt (record { run = run; attempt = attempt })) (option_and_then number_of (after_prefix (codes "/attempts/") rest)))
+    else (if bytes_eq rest (codes "/forget") then Some (Forget run)
+    else option_map (λ attempt. Attempt (record { run = run; attempt = attempt })) (option_and_then number_of (after_prefix (codes "/attempts/") rest))))
 
 -- after `/runs/`: RUN, or RUN and a part of that run
 abbrev pub run_path : List ℕ → Option Path
@@ -34,9 +35,11 @@ run_path rest =
     option_map_or (λ parts. option_and_then (λ run. part_of_run run parts.1) (number_of parts.0)) (at_slash rest)
     (option_map Run (number_of rest))
 
--- after `/runners/`: NAME`/lost`
+-- after `/runners/`: NAME`/lost` or NAME`/forget`
 abbrev pub runner_path : List ℕ → Option Path
-runner_path rest = option_map_or (λ name. option_map Lost (runner_name_of name)) (before_end (codes "/lost") rest) None
+runner_path rest =
+    option_map_or (λ name. option_map Lost (runner_name_of name)) (before_end (codes "/lost") rest)
+    (option_map_or (λ name. option_map Discharge (runner_name_of name)) (before_end (codes "/forget") rest) None)
 
 abbrev pub path_of : List ℕ → Option Path
 path_of target =
@@ -49,10 +52,12 @@ IsTargetOf Events target = target ≡ codes "/events"
 IsTargetOf (Run run) target = (text : List ℕ) × (number_of text ≡ Some run) × (target ≡ codes "/runs/" ++ text)
 IsTargetOf (Body run) target = (text : List ℕ) × (number_of text ≡ Some run) × (target ≡ codes "/runs/" ++ text ++ codes "/body")
 IsTargetOf (Cancel run) target = (text : List ℕ) × (number_of text ≡ Some run) × (target ≡ codes "/runs/" ++ text ++ codes "/cancel")
+IsTargetOf (Forget run) target = (text : List ℕ) × (number_of text ≡ Some run) × (target ≡ codes "/runs/" ++ text ++ codes "/forget")
 IsTargetOf (Attempt a) target =
     (run attempt : List ℕ) × (number_of run ≡ Some a.run) × (number_of attempt ≡ Some a.attempt)
     × (target ≡ codes "/runs/" ++ run ++ (codes "/attempts/" ++ attempt))
 IsTargetOf (Lost runner) target = (text : List ℕ) × (runner_name_of text ≡ Some runner) × (target ≡ codes "/runners/" ++ text ++ codes "/lost")
+IsTargetOf (Discharge runner) target = (text : List ℕ) × (runner_name_of text ≡ Some runner) × (target ≡ codes "/runners/" ++ text ++ codes "/forget")
 
 -- the method of a path: RFC 9110, section 9
 abbrev pub method_of : Path → List ℕ
@@ -61,4 +66,6 @@ method_of (Run run) = codes "GET"
 method_of (Body run) = codes "GET"
 method_of (Cancel run) = codes "POST"
 method_of (Attempt a) = codes "POST"
+method_of (Forget run) = codes "POST"
 method_of (Lost runner) = codes "POST"
+method_of (Discharge runner) = codes "POST"

@@ -51,5 +51,6 @@ abbrev pub reply_status : Reply → ℕ
 reply_status (reply.Created run) = 201
 reply_status (reply.Again a) = 201
 reply_status reply.Ok = 202
+reply_status (reply.Forgotten last) = 202
 reply_status (reply.Refused e) = refusal_status e
 reply_status r = 200

@@ -71,7 +71,9 @@ fn command_at(
         Path::Body(run) => Ok(Demand::Command(Command::Fetch(run))),
         Path::Cancel(run) => Ok(Demand::Command(Command::Cancel(run))),
         Path::Attempt(attempt) => Ok(Demand::Command(Command::Rerun(attempt))),
+        Path::Forget(run) => Ok(Demand::Command(Command::Forget(run))),
         Path::Lost(runner) => Ok(Demand::Command(Command::Lost(runner))),
+        Path::Discharge(runner) => Ok(Demand::Command(Command::Discharge(runner))),
     }
 }
 

@@ -20,8 +20,12 @@ pub enum Path {
     Cancel(Number),
     /// `/runs/RUN/attempts/ATTEMPT`
     Attempt(Attempt),
+    /// `/runs/RUN/forget`
+    Forget(Number),
     /// `/runners/NAME/lost`
     Lost(RunnerName),
+    /// `/runners/NAME/forget`
+    Discharge(RunnerName),
 }
 
 impl Path {
@@ -47,7 +51,12 @@ impl Path {
     {
         match self {
             Path::Run(_) | Path::Body(_) => Method::GET,
-            Path::Events | Path::Cancel(_) | Path::Attempt(_) | Path::Lost(_) => Method::POST,
+            Path::Events
+            | Path::Cancel(_)
+            | Path::Attempt(_)
+            | Path::Forget(_)
+            | Path::Lost(_)
+            | Path::Discharge(_) => Method::POST,
         }
     }
 }
@@ -92,6 +101,9 @@ fn part_of_run(run: Number, rest: &[u8]) -> Option<Path>
     if rest == b"/cancel".as_slice() {
         return Some(Path::Cancel(run));
     }
+    if rest == b"/forget".as_slice() {
+        return Some(Path::Forget(run));
+    }
     let attempt = Number::of(after_prefix(b"/attempts/", rest)?)?;
     Some(Path::Attempt(Attempt { run, attempt }))
 }
@@ -108,8 +120,11 @@ fn run_path(rest: &[u8]) -> Option<Path>
 fn runner_path(alloc: Global, rest: &[u8]) -> Result<Option<Path>, Refusal>
     ensures { Gives (λ p. p) result (Ok (runner_path rest.now)) }
 {
-    match before_end(b"/lost", rest) {
-        Some(name) => Ok(RunnerName::of(alloc, name)?.map(Path::Lost)),
+    if let Some(name) = before_end(b"/lost", rest) {
+        return Ok(RunnerName::of(alloc, name)?.map(Path::Lost));
+    }
+    match before_end(b"/forget", rest) {
+        Some(name) => Ok(RunnerName::of(alloc, name)?.map(Path::Discharge)),
         None => Ok(None),
     }
 }

@@ -69,7 +69,7 @@ pub fn reply_status(reply: &Reply) -> StatusCode
 {
     match reply {
         Reply::Created(_) | Reply::Again(_) => StatusCode::CREATED,
-        Reply::Ok => StatusCode::ACCEPTED,
+        Reply::Ok | Reply::Forgotten(_) => StatusCode::ACCEPTED,
         Reply::Refused(refusal) => refusal_status(refusal),
         _ => StatusCode::OK,
     }

@@ -63,7 +63,9 @@ command_of kind rest =
     else (if kind == 7 then parts_at (λ (n : ℕ). requested.Look n) number_at rest
     else (if kind == 8 then parts_at (λ (n : ℕ). requested.Fetch n) number_at rest
     else (if kind == 9 then parts_at (λ (a : Attempt). requested.Rerun a) rerun_at rest
-    else None))))))))
+    else (if kind == 12 then parts_at (λ (n : ℕ). requested.Forget n) number_at rest
+    else (if kind == 13 then parts_at (λ (r : List ℕ). requested.Discharge r) (small_text_at is_runner_byte) rest
+    else None))))))))))
 
 unfoldable pub command_at : Reader Command
 command_at [] = None

@@ -1,13 +1,14 @@
 //! Admits an event: creates its run, unless its delivery has one already.
 
 ghost use Rattle.std.specs.Prelude.{◌≡◌, ◌<◌, ◌-◌, true, length, slice_get, option_copied, option_map, Ok, OnErr, IsOk};
-ghost use Rattle.definitions.specs.Limits.{max_runs};
+ghost use Rattle.definitions.specs.Limits.{last_number, max_runs};
 ghost use Rattle.wf_value.specs.Gives.{Gives};
 ghost use Rattle.table_model.specs.Sound.{IsSound};
-ghost use Rattle.table_model.specs.Step.{admission_answer, admitted, admitting, is_allocation_free, outcome};
+ghost use Rattle.table_model.specs.Step.{admission_answer, admitted, admitting, is_allocation_free, is_full, outcome};
+ghost use Rattle.table_model.specs.TableState.{last_id};
 
-use crate::table_data::{TableData, id_of, refused};
-use run_plan::{Prepared, Reply};
+use crate::table_data::{TableData, refused};
+use run_plan::{LAST_NUMBER, Prepared, Reply};
 use std::alloc::Global;
 use table_model::MAX_RUNS;
 use wf_value::{Code, Refusal};
@@ -19,13 +20,20 @@ impl TableData {
         ensures err { OnErr result (self.new ≡ self.old) }
         ensures answers { is_allocation_free (admission_answer self.old prepared.now) ≡ true → IsOk result }
     {
-        if let Some(index) = self.runs.position(prepared.delivery()) {
-            return Ok(Reply::Created(id_of(index)));
+        if let Some(run) = self.run_of_delivery(prepared.delivery()) {
+            return Ok(Reply::Created(run));
         }
-        if self.runs.len() >= MAX_RUNS as usize {
+        if self.is_full() {
             return Ok(refused(Code::LastCounter));
         }
         self.enter(alloc, prepared)
+    }
+
+    /// Whether the table has as many runs as it may have, or the last id is used up.
+    fn is_full(&self) -> bool
+        ensures { result ≡ is_full self.now }
+    {
+        self.runs.len() >= MAX_RUNS as usize || self.last_id() >= LAST_NUMBER
     }
 
     /// The event of the last run, if there is a run.
@@ -51,11 +59,12 @@ impl TableData {
     fn enter(&mut self, alloc: Global, prepared: &Prepared) -> Result<Reply, Refusal>
         requires sound { IsSound self.old }
         requires few { length self.old.runs < max_runs }
+        requires ids { last_id self.old < last_number }
         ensures step { Gives (λ reply. (self.new, reply)) result (Ok (outcome (admitting self.old prepared.now))) }
         ensures err { OnErr result (self.new ≡ self.old) }
     {
-        let index = self.runs.len();
-        self.runs.admit(alloc, prepared)?;
-        Ok(Reply::Created(id_of(index)))
+        let id = self.id_at(self.runs.len());
+        self.runs.admit(alloc, &self.forgotten, prepared)?;
+        Ok(Reply::Created(id))
     }
 }

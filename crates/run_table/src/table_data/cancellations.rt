@@ -4,7 +4,7 @@ ghost use Rattle.std.specs.Prelude.{◌≡◌};
 ghost use Rattle.table_model.specs.Sound.{IsSound};
 ghost use Rattle.table_model.specs.Step.{answer_of_run, cancel_answer, cancelled, outcome};
 
-use crate::table_data::{TableData, index_of, refused};
+use crate::table_data::{TableData, refused};
 use run_plan::{Number, Reply};
 use table_model::RunPhase;
 use wf_value::Code;
@@ -18,7 +18,8 @@ impl TableData {
         if let Some(reply) = self.answer_to_cancel(id) {
             return reply;
         }
-        self.runs.stop(index_of(id));
+        let index = self.index_of(id);
+        self.runs.stop(index);
         self.runs.settle();
         Reply::Ok
     }
@@ -26,7 +27,7 @@ impl TableData {
     fn answer_to_cancel(&self, id: Number) -> Option<Reply>
         ensures { result ≡ cancel_answer self.now id }
     {
-        match self.runs.as_slice().get(index_of(id)) {
+        match self.run_with(id) {
             Some(run) => answer_of_run(run.phase(), run.is_stopping()),
             None => Some(refused(Code::NoRun)),
         }

@@ -1,7 +1,7 @@
 //! Finds the leg of a lease that a runner holds.
 
 ghost use Rattle.std.specs.Prelude.{◌≡◌, ◌<◌, ◌^◌, IfSome, option_and_then};
-ghost use Rattle.table_model.specs.inner.KeptSite.{kept_site};
+ghost use Rattle.run_table.specs.inner.KeptSite.{kept_site};
 ghost use Rattle.table_model.specs.Sound.{IsSound};
 ghost use Rattle.table_model.specs.Fitting.{OnlyAtWork, site_of_lease};
 
@@ -22,7 +22,7 @@ impl TableData {
         ensures found { result ≡ site_of_lease self.now.runs lease }
         ensures leg { IfSome result (λ p. p.leg < 2 ^ 63) }
     {
-        match kept_site(self.runners().get(index)) {
+        match kept_site(self.forgotten.through(), self.runners().get(index)) {
             Some(leg) if leg_has_lease(&self.runs, leg, lease) => Some(leg),
             _ => site_of_lease(lease, &self.runs),
         }
@@ -31,12 +31,12 @@ impl TableData {
 
 /// The site of the leg that the runner's last claim was given, or `None` if there is no runner or the claim was given
 /// no leg.
-fn kept_site(runner: Option<&Runner>) -> Option<LegSite>
-    ensures { result ≡ option_and_then (λ r. kept_site r.now.last) runner.entry }
+fn kept_site(through: u32, runner: Option<&Runner>) -> Option<LegSite>
+    ensures { result ≡ option_and_then (λ r. kept_site through r.now.last) runner.entry }
 {
     match &runner?.last {
         LastCommand::Claim(_, ClaimReply::Lease(kept)) => Some(LegSite::new(
-            kept.lease_reply.run.get() as usize - 1,
+            (kept.lease_reply.run.get() as usize).saturating_sub(through as usize + 1),
             kept.job,
             kept.lease_reply.leg,
         )),

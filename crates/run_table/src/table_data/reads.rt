@@ -6,8 +6,8 @@ ghost use Rattle.table_model.specs.Sound.{IsSound};
 ghost use Rattle.table_model.specs.Step.{beat_answer, fetch_answer, is_allocation_free, look_answer, seen};
 
 use crate::runner::holds_this;
-use crate::table_data::{TableData, index_of, refused};
-use crate::view::{RunView, look};
+use crate::table_data::{TableData, refused};
+use crate::view::RunView;
 use run_plan::{Beat, Number, Reply, SharedBody};
 use std::alloc::Global;
 use table_runs::fit::is_stopping;
@@ -36,7 +36,7 @@ impl TableData {
         ensures gives { Gives (λ reply. reply) result (Ok (fetch_answer self.now id)) }
         ensures answers { is_allocation_free (Some (fetch_answer self.now id)) ≡ true → IsOk result }
     {
-        let Some(run) = self.runs.as_slice().get(index_of(id)) else {
+        let Some(run) = self.run_with(id) else {
             return Ok(refused(Code::NoRun));
         };
         Ok(Reply::Body(SharedBody::of(run.prepared())?))
@@ -56,6 +56,6 @@ impl TableData {
     pub(crate) fn look(&self, run: Number) -> Option<RunView<'_>>
         ensures { result ≡ seen self.now run }
     {
-        look(&self.runs, run)
+        Some(RunView::of(self.run_with(run)?))
     }
 }

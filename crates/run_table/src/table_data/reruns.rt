@@ -5,7 +5,7 @@ ghost use Rattle.wf_value.specs.Gives.{Gives};
 ghost use Rattle.table_model.specs.Sound.{IsSound};
 ghost use Rattle.table_model.specs.Step.{answer_of_attempt, answer_of_next, is_allocation_free, outcome, rerun, rerun_answer};
 
-use crate::table_data::{TableData, index_of, refused};
+use crate::table_data::{TableData, refused};
 use run_plan::{Attempt, Reply};
 use std::alloc::Global;
 use table_model::{LAST_ATTEMPT, Run, RunPhase};
@@ -23,7 +23,7 @@ impl TableData {
         if let Some(reply) = self.answer_to_rerun(requested) {
             return Ok(reply);
         }
-        let index = index_of(requested.run);
+        let index = self.index_of(requested.run);
         self.runs.rerun(alloc, index)?;
         self.runs.settle();
         Ok(Reply::Again(*requested))
@@ -32,7 +32,7 @@ impl TableData {
     fn answer_to_rerun(&self, requested: &Attempt) -> Option<Reply>
         ensures { result ≡ rerun_answer self.now requested.now }
     {
-        match self.runs.as_slice().get(index_of(requested.run)) {
+        match self.run_with(requested.run) {
             Some(run) => answer_of_attempt(run, requested),
             None => Some(refused(Code::NoRun)),
         }

@@ -3,7 +3,7 @@
 ghost use Rattle.std.specs.Prelude.{◌≡◌, ◌<◌, ℕ, [], IfOk, List, Ok, OnOk, Some, if◌then◌else◌, string_bytes, unwrap_or};
 ghost use Rattle.std.specs.Str.{bytes_eq};
 ghost use Rattle.indexmap.specs.IndexMap.{get_by_text, spare};
-ghost use Rattle.wf_value.specs.Gives.{ErrsOnlyByMemory, Gives};
+ghost use Rattle.wf_value.specs.Gives.{ErrsOnlyByMemory};
 ghost use Rattle.definitions.specs.SmallText.{Admitted};
 ghost use Rattle.table_model.specs.LegContext.{same_workflow};
 ghost use Rattle.table_bindings.specs.inner.LabelNumbers.{LegsAreOffered};
@@ -11,12 +11,12 @@ ghost use Rattle.table_runs.specs.inner.Counted.{AreCounted, count_of};
 ghost use Rattle.table_runs.specs.inner.Delivered.{FindsFirst};
 
 use crate::rows::counts::Counts;
-use crate::rows::deliveries::DeliveryIndexes;
 use crate::rows::workflow::Workflow;
+use forgotten_runs::{DeliveryIndexes, string_of};
 use label_lists::LabelLists;
 use run_plan::{DeliveryId, Number};
 use std::alloc::Global;
-use wf_value::{Chars, Refusal};
+use wf_value::Refusal;
 
 /// The index of the first run of each delivery, the number of runs of each workflow, and the runs that may have a ready leg for a list of
 /// labels.
@@ -89,11 +89,4 @@ impl Index {
             lists: self.lists.copy(alloc)?,
         })
     }
-}
-
-/// A copy of a text.
-fn string_of(alloc: Global, text: &str) -> Result<String, Refusal>
-    ensures { Gives string_bytes result (Ok text.now) }
-{
-    Ok(Chars::from_str(alloc, text)?.into_string())
 }

@@ -1,15 +1,15 @@
 //! Arrivals: of a new run, of a run that begins its next attempt, and of a leg. GitHub Docs, "Control the concurrency of workflows and
 //! jobs".
 
-ghost use Rattle.std.specs.Prelude.{◌≡◌, ◌<◌, ◌∷◌, ◌++◌, ℕ, [], IfOk, IfSome, None, Ok, OnErr, Some, if◌then◌else◌, length, true};
-ghost use Rattle.definitions.specs.Limits.{last_attempt, max_runs};
+ghost use Rattle.std.specs.Prelude.{◌≡◌, ◌+◌, ◌<◌, ◌∷◌, ◌++◌, ℕ, [], IfOk, IfSome, None, Ok, OnErr, Some, if◌then◌else◌, length, true};
+ghost use Rattle.definitions.specs.Limits.{last_attempt, last_number, max_runs};
 ghost use Rattle.wf_value.specs.Gives.{Gives};
 ghost use Rattle.run_marks.specs.Marked.{Covers, is_marked};
 ghost use Rattle.table_model.specs.Settling.{arrived, first_site, newcomer_rule, settled};
 ghost use Rattle.table_model.specs.Groups.{cancels_in_progress, group_at, run_waits, waits};
 ghost use Rattle.table_model.specs.inner.Holders.{first_conflicting};
 ghost use Rattle.table_model.specs.Holders.{run_of};
-ghost use Rattle.table_model.specs.LegContext.{next_run, number_of_next};
+ghost use Rattle.table_model.specs.Forgotten.{next_run};
 ghost use Rattle.table_model.specs.Runs.{again, run_at, with_run};
 ghost use Rattle.table_model.specs.inner.Resuming.{is_new_at, resume_at_arrival};
 ghost use Rattle.table_model.specs.Sound.{RunsAreSound};
@@ -19,11 +19,13 @@ ghost use Rattle.table_model.specs.declared.holder.Holder.TheVariants as held;
 ghost use Rattle.table_model.specs.declared.holder.HolderFilter.TheVariants.{InProgress, OthersPending};
 ghost use Rattle.table_model.specs.declared.phases.RunPhase.TheVariants as run;
 ghost use Rattle.table_runs.specs.inner.Arriving.{KeptBeside, stopped_if, with_first_stopped};
+ghost use Rattle.table_runs.specs.inner.Counted.{number_among};
 ghost use Rattle.table_runs.specs.inner.GroupsKept.{GroupsAreKept};
 ghost use Rattle.table_runs.specs.inner.MarkedRuns.{AreMarked, is_due};
 
 use crate::rows::{ComingRun, Rows};
 use crate::runs::Runs;
+use forgotten_runs::ForgottenRuns;
 use group_book::Book;
 use run_marks::RunBitmap;
 use run_plan::Prepared;
@@ -41,17 +43,25 @@ impl Runs {
     /// When: 50
     /// Afterwards: as it was; lists of labels only grow
     /// By: one clause each (`Gives`); `Runs::{admit, rerun}`, `err`
-    pub fn admit(&mut self, alloc: Global, event: &Prepared) -> Result<(), Refusal>
+    pub fn admit(
+        &mut self,
+        alloc: Global,
+        forgotten: &ForgottenRuns,
+        event: &Prepared,
+    ) -> Result<(), Refusal>
         requires few { length self.old < max_runs }
+        requires ids { forgotten.now.through + length self.old < last_number }
         requires sound { RunsAreSound self.old }
         requires rests { first_site self.old ≡ None }
-        requires added { RunsAreSound (self.old ++ next_run self.old event.now ∷ []) }
+        requires added { RunsAreSound (self.old ++ next_run forgotten.now self.old event.now ∷ []) }
         ensures admitted { Gives (λ _. self.new) result
-            (Ok (settled (arrived (held.Run (length self.old)) (self.old ++ next_run self.old event.now ∷ [])).runs)) }
+            (Ok (settled (arrived (held.Run (length self.old)) (self.old ++ next_run forgotten.now self.old event.now ∷ [])).runs)) }
         ensures err { OnErr result (self.new ≡ self.old) }
     {
         let coming = self.rows.coming(event)?;
-        let run = Run::of_event(alloc, coming.id, coming.number, event)?;
+        let id = forgotten.next_id(self.len());
+        let number = forgotten.next_number(event, coming.number);
+        let run = Run::of_event(alloc, id, number, event)?;
         let start = self.arrive(alloc, run, coming)?;
         self.settle_from(start);
         Ok(())
@@ -61,7 +71,7 @@ impl Runs {
     fn arrive(&mut self, alloc: Global, run: Run, coming: ComingRun) -> Result<JobSite, Refusal>
         requires few { length self.old < max_runs }
         requires workflow { coming.workflow ≡ run.admitted }
-        requires number { coming.number ≡ number_of_next self.old run.admitted }
+        requires number { coming.number ≡ number_among self.old run.admitted }
         requires waits { run_waits run.phase ≡ true }
         requires sound { RunsAreSound (self.old ++ run ∷ []) }
         ensures admitted { Gives (λ _. self.new) result (Ok (arrived (held.Run (length self.old)) (self.old ++ run ∷ [])).runs) }

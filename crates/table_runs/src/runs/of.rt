@@ -1,8 +1,9 @@
-//! Builds the runs of a table from the parts in which they are stored, and the book of groups from the table.
+//! Builds the runs of a table from the parts in which they are stored, or from the other runs once the first ones are forgotten, and the book of
+//! groups from the table.
 
-ghost use Rattle.std.specs.Prelude.{◌≡◌, ◌≤◌, ◌<◌, ℕ, [], IfOk, IfSome, List, MatchOption, None, Some, length, option_and_then, true};
-ghost use Rattle.definitions.specs.Limits.{max_runs};
-ghost use Rattle.wf_value.specs.Gives.{ErrsOnlyByMemory};
+ghost use Rattle.std.specs.Prelude.{◌≡◌, ◌+◌, ◌≤◌, ◌<◌, ℕ, [], IfOk, IfSome, List, MatchOption, None, Ok, Some, drop, length, option_and_then, true};
+ghost use Rattle.definitions.specs.Limits.{last_number, max_runs};
+ghost use Rattle.wf_value.specs.Gives.{ErrsOnlyByMemory, Gives};
 ghost use Rattle.group_name.specs.Group.{Group as GroupInWords};
 ghost use Rattle.group_book.specs.Books.{slot_in};
 ghost use Rattle.run_marks.specs.Marked.{Covers, is_marked};
@@ -20,12 +21,13 @@ ghost use Rattle.table_runs.specs.inner.Seating.{AreSeatedOrTaken, AreStored, Be
 use crate::rows::Rows;
 use crate::runs::Runs;
 use crate::runs::changes::begin_in_group;
+use forgotten_runs::ForgottenRuns;
 use group_book::Book;
 use group_name::GroupKey;
 use run_marks::RunBitmap;
 use std::alloc::Global;
 use table_model::{Holder, LegSite, MAX_RUNS, Run, RunParts};
-use wf_value::Refusal;
+use wf_value::{Refusal, TryCopy};
 
 /// One of the two slots of a group.
 #[derive(Clone, Copy)]
@@ -35,56 +37,112 @@ enum GroupSlot {
 }
 
 impl Runs {
-    /// The runs of these parts. `None` if there are more than 100,000, if a run does not have the jobs and legs of its plan, or if a group
-    /// has two holders in progress or two pending ones.
-    pub fn of_parts(alloc: Global, parts: &[RunParts]) -> Result<Option<Self>, Refusal>
+    /// The runs of these parts, after the forgotten ones. `None` if there are more than 100,000, if a run does not have the jobs and legs of its
+    /// plan, or if a group has two holders in progress or two pending ones.
+    pub fn of_parts(
+        alloc: Global,
+        forgotten: &ForgottenRuns,
+        parts: &[RunParts],
+    ) -> Result<Option<Self>, Refusal>
+        requires ids { forgotten.now.through + length parts.now ≤ last_number }
         ensures err { ErrsOnlyByMemory result }
         ensures of { IfOk result (λ found. MatchOption found
-            ((runs : List RunState) → AreRunsOf parts.now runs → AreAsPlanned runs → HasOneEach runs → ⊥)
-            (λ runs. AreRunsOf parts.now runs × AreAsPlanned runs × HasOneEach runs)) }
+            ((runs : List RunState) → AreRunsOf forgotten.now parts.now runs → AreAsPlanned runs → HasOneEach runs → ⊥)
+            (λ runs. AreRunsOf forgotten.now parts.now runs × AreAsPlanned runs × HasOneEach runs)) }
     {
         if parts.len() > MAX_RUNS as usize {
             return Ok(None);
         }
         let mut book = Book::new(alloc);
-        let Some(mut rows) = rows_of(alloc, parts, &mut book)? else {
+        let Some(rows) = rows_of(alloc, forgotten, parts, &mut book)? else {
             return Ok(None);
         };
+        Runs::of_rows(alloc, rows, book)
+    }
+
+    /// The runs without the first `k`, which are forgotten. What is kept of the others is made anew, so that on an `Err` these runs are there
+    /// as before.
+    pub fn without_first(&self, alloc: Global, k: usize) -> Result<Self, Refusal>
+        requires within { k ≤ length self.now }
+        requires one { HasOneEach (drop k self.now) }
+        ensures { Gives (λ runs. runs) result (Ok (drop k self.now)) }
+    {
+        let mut book = Book::new(alloc);
+        let rows = rows_again(alloc, &self.as_slice()[k..], &mut book)?;
+        match Runs::of_rows(alloc, rows, book)? {
+            Some(runs) => Ok(runs),
+            None => unreachable!(),
+        }
+    }
+
+    /// The runs of these rows, with the holders of groups that they have. `None` if a group has two holders in progress or two pending ones.
+    fn of_rows(alloc: Global, rows: Rows, book: Book<Holder>) -> Result<Option<Self>, Refusal>
+        requires empty { book.entries ≡ [] }
+        requires stored { AreStored rows book }
+        ensures err { ErrsOnlyByMemory result }
+        ensures of { IfOk result (λ found. MatchOption found (HasOneEach rows.runs → ⊥)
+            (λ runs. (runs ≡ rows.runs) × HasOneEach rows.runs)) }
+    {
+        let mut rows = rows;
+        let mut book = book;
         if !seat_all(&mut rows, &mut book, GroupSlot::InProgress) {
             return Ok(None);
         }
         if !seat_all(&mut rows, &mut book, GroupSlot::Pending) {
             return Ok(None);
         }
+        let due = all_marked(alloc, rows.runs.len())?;
         Ok(Some(Runs {
             rows,
             book,
-            due: all_marked(alloc, parts.len())?,
+            due,
             tries: 0,
         }))
     }
 }
 
-/// The runs with what is kept of each. Nobody has arrived in a group yet.
+/// The same runs with what is kept of each. Nobody has arrived in a group yet.
+fn rows_again(alloc: Global, runs: &[Run], book: &mut Book<Holder>) -> Result<Rows, Refusal>
+    requires few { length runs.now ≤ max_runs }
+    requires empty { book.old.entries ≡ [] }
+    ensures err { ErrsOnlyByMemory result }
+    ensures entries { book.new.entries ≡ [] }
+    ensures runs { IfOk result (λ rows. rows.runs ≡ runs.now) }
+    ensures stored { IfOk result (λ rows. AreStored rows book.new) }
+{
+    let mut rows = Rows::new(alloc);
+    for r in 0..runs.len() {
+        let run = runs[r].copy(alloc)?;
+        let coming = rows.coming(run.prepared())?;
+        rows.add(alloc, run, coming, book)?;
+    }
+    Ok(rows)
+}
+
+/// The runs of parts with what is kept of each. Nobody has arrived in a group yet.
 fn rows_of(
     alloc: Global,
+    forgotten: &ForgottenRuns,
     parts: &[RunParts],
     book: &mut Book<Holder>,
 ) -> Result<Option<Rows>, Refusal>
     requires few { length parts.now ≤ max_runs }
+    requires ids { forgotten.now.through + length parts.now ≤ last_number }
     requires empty { book.old.entries ≡ [] }
     ensures err { ErrsOnlyByMemory result }
     ensures entries { book.new.entries ≡ [] }
-    ensures runs { IfOk result (λ found. IfSome found (λ rows. AreRunsOf parts.now rows.runs)) }
+    ensures runs { IfOk result (λ found. IfSome found (λ rows. AreRunsOf forgotten.now parts.now rows.runs)) }
     ensures planned { IfOk result (λ found. MatchOption found
-        ((runs : List RunState) → AreRunsOf parts.now runs → AreAsPlanned runs → ⊥) (λ rows. AreAsPlanned rows.runs)) }
+        ((runs : List RunState) → AreRunsOf forgotten.now parts.now runs → AreAsPlanned runs → ⊥) (λ rows. AreAsPlanned rows.runs)) }
     ensures stored { IfOk result (λ found. IfSome found (λ rows. AreStored rows book.new)) }
 {
     let mut rows = Rows::new(alloc);
     for r in 0..parts.len() {
         let part = &parts[r];
         let coming = rows.coming(&part.prepared)?;
-        let Some(run) = Run::of_parts(alloc, coming.id, coming.number, part)? else {
+        let id = forgotten.next_id(r);
+        let number = forgotten.next_number(&part.prepared, coming.number);
+        let Some(run) = Run::of_parts(alloc, id, number, part)? else {
             return Ok(None);
         };
         rows.add(alloc, run, coming, book)?;

@@ -4,6 +4,7 @@ use Rattle.definitions.specs.Limits.{max_runs}
 use Rattle.definitions.specs.SmallText.{Admitted, is_runner_byte}
 use Rattle.stored_tables.specs.Stored.{RunnerParts, TableParts}
 use Rattle.stored_tables.specs.declared.parts.LastParts.{LastParts}
+use Rattle.table_model.specs.Forgotten.{ForgottenRuns, none_forgotten}
 use Rattle.table_model.specs.Parts.{RunParts}
 use Rattle.table_model.specs.Runs.{JobState}
 use Rattle.table_model.specs.declared.phases.RunPhase.{RunPhase}
@@ -11,12 +12,9 @@ use Rattle.table_text.specs.declared.kept.StoredReply.{StoredReply}
 use Rattle.table_text.specs.declared.kept.StoredReply.TheVariants as replied
 use Rattle.command_encodings.specs.inner.Reading.{Reader, byte_at, counted_at, follow_at, items_at, only_at, pair_at, parts_at, some_at}
 use Rattle.command_encodings.specs.inner.ReadingCommands.{admit_at, command_at, number_at, small_text_at}
+use Rattle.table_text.specs.inner.ReadingSecond.{unencoded_at}
 use Rattle.table_text.specs.inner.ReadingTables.{flag_at, job_at, last_lease_at, last_of, lease_at, run_phase_at}
 use Rattle.table_text.specs.Tables.{jobs_planned, names_rise}
-
--- what is not encoded
-abbrev pub unencoded_at : {A : Type 0} → A → Reader A
-unencoded_at x bytes = Some (x, bytes)
 
 -- ---- runs
 
@@ -68,5 +66,6 @@ first_runners_at bytes = only_at names_rise (counted_at 0 4294967295 first_runne
 
 unfoldable pub first_table_at : Reader TableParts
 first_table_at bytes =
-    parts_at (λ (p : ℕ × (List RunParts × List RunnerParts)). record { last_lease = p.0; runs = p.1.0; runners = p.1.1 })
-    (pair_at last_lease_at (pair_at first_runs_at first_runners_at)) bytes
+    parts_at (λ (p : ℕ × (ForgottenRuns × (List RunParts × List RunnerParts))). record
+    { last_lease = p.0; forgotten = p.1.0; runs = p.1.1.0; runners = p.1.1.1 })
+    (pair_at last_lease_at (pair_at (unencoded_at none_forgotten) (pair_at first_runs_at first_runners_at))) bytes

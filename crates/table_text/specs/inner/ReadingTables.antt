@@ -1,14 +1,16 @@
 -- Reading of a table as a function, field by field.
+use Rattle.std.specs.Str.{is_utf8}
 use Rattle.std.specs.Prelude.{ℕ, ◌==◌, List, [], ◌∷◌, find, Bool, true, false, not, if◌then◌else◌, Option, Some, None}
 use Rattle.definitions.specs.Limits.{max_runs}
 use Rattle.wf_value.specs.declared.outcome.JobResult.TheVariants as result
 use Rattle.wf_value.specs.declared.outcome.Outcome.TheVariants as outcome
-use Rattle.definitions.specs.SmallText.{Admitted, is_runner_byte}
+use Rattle.definitions.specs.SmallText.{Admitted, is_delivery_byte, is_runner_byte}
 use Rattle.run_plan.specs.declared.command.Claim.{Claim}
 use Rattle.run_plan.specs.declared.command.Done.{Done}
 use Rattle.run_plan.specs.declared.command.Command.{Command}
 use Rattle.run_plan.specs.declared.command.Command.TheVariants as requested
 use Rattle.stored_tables.specs.Stored.{RunnerParts, TableParts, is_new}
+use Rattle.table_model.specs.Forgotten.{ForgottenRuns, WorkflowCount}
 use Rattle.table_model.specs.Parts.{RunParts}
 use Rattle.table_model.specs.Runs.{LegState, JobState}
 use Rattle.stored_tables.specs.declared.parts.LastParts.{LastParts}
@@ -24,9 +26,9 @@ use Rattle.table_model.specs.declared.phases.RunPhase.TheVariants as run_phase
 use Rattle.table_text.specs.declared.kept.StoredReply.{StoredReply}
 use Rattle.table_text.specs.declared.kept.StoredReply.TheVariants as replied
 use Rattle.command_encodings.specs.Commands.{is_numbered}
-use Rattle.command_encodings.specs.inner.Reading.{Reader, byte_at, counted_at, follow_at, items_at, only_at, pair_at, parts_at, present_at, some_at, word_at}
+use Rattle.command_encodings.specs.inner.Reading.{Reader, byte_at, counted_at, follow_at, items_at, only_at, pair_at, parts_at, present_at, some_at, text_at, word_at}
 use Rattle.command_encodings.specs.inner.ReadingCommands.{admit_at, command_at, number_at, small_text_at}
-use Rattle.table_text.specs.Tables.{flag_byte, is_attempt, is_last_lease, job_byte, jobs_planned, leg_byte, names_rise, run_byte}
+use Rattle.table_text.specs.Tables.{deliveries_kept, flag_byte, is_attempt, is_last_id, is_last_lease, job_byte, jobs_planned, leg_byte, names_rise, run_byte}
 
 -- 0 means none
 abbrev pub optional_lease : ℕ → Option ℕ
@@ -134,6 +136,8 @@ last_with (requested.Lost runner) kept = None
 last_with (requested.Look run) kept = None
 last_with (requested.Fetch run) kept = None
 last_with (requested.Rerun requests) kept = None
+last_with (requested.Forget run) kept = None
+last_with (requested.Discharge runner) kept = None
 
 abbrev pub last_of : Command × StoredReply → Option LastParts
 last_of p = last_with p.0 p.1
@@ -145,6 +149,29 @@ unfoldable pub runner_at : Reader RunnerParts
 runner_at bytes =
     parts_at (λ (p : List ℕ × (ℕ × (LastParts × Option ℕ))). record { name = p.0; number = p.1.0; last = p.1.1.0; holds = p.1.1.1 })
     (pair_at (small_text_at is_runner_byte) (pair_at number_at (pair_at last_at lease_at))) bytes
+
+-- ---- what is kept of forgotten runs
+
+unfoldable pub name_at : Reader (List ℕ)
+name_at bytes = only_at is_utf8 text_at bytes
+
+unfoldable pub count_at : Reader WorkflowCount
+count_at bytes =
+    parts_at (λ (p : List ℕ × (List ℕ × ℕ)). record { repo = p.0; path = p.1.0; runs = p.1.1 })
+    (pair_at name_at (pair_at name_at number_at)) bytes
+
+unfoldable pub last_id_at : Reader ℕ
+last_id_at bytes = only_at is_last_id word_at bytes
+
+-- the counts, and the deliveries that are kept of so many forgotten runs
+unfoldable pub kept_of_forgotten_at : ℕ → Reader (List WorkflowCount × List (List ℕ))
+kept_of_forgotten_at n bytes =
+    pair_at (counted_at 0 4294967295 count_at) (items_at (small_text_at is_delivery_byte) (deliveries_kept n)) bytes
+
+unfoldable pub forgotten_at : Reader ForgottenRuns
+forgotten_at bytes =
+    parts_at (λ (p : ℕ × (List WorkflowCount × List (List ℕ))). record { through = p.0; counts = p.1.0; deliveries = p.1.1 })
+    (follow_at last_id_at kept_of_forgotten_at) bytes
 
 -- ---- tables
 
@@ -159,5 +186,6 @@ runners_at bytes = only_at names_rise (counted_at 0 4294967295 runner_at) bytes
 
 unfoldable pub table_at : Reader TableParts
 table_at bytes =
-    parts_at (λ (p : ℕ × (List RunParts × List RunnerParts)). record { last_lease = p.0; runs = p.1.0; runners = p.1.1 })
-    (pair_at last_lease_at (pair_at runs_at runners_at)) bytes
+    parts_at (λ (p : ℕ × (ForgottenRuns × (List RunParts × List RunnerParts))). record
+    { last_lease = p.0; forgotten = p.1.0; runs = p.1.1.0; runners = p.1.1.1 })
+    (pair_at last_lease_at (pair_at forgotten_at (pair_at runs_at runners_at))) bytes

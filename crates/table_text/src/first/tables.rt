@@ -7,6 +7,7 @@ use super::runners::first_runners_at;
 use super::runs::first_runs_at;
 use crate::table_at::last_lease_at;
 use command_encodings::DecodeError;
+use forgotten_runs::ForgottenParts;
 use std::alloc::Global;
 use stored_tables::TableParts;
 use wf_value::Sequence;
@@ -24,6 +25,7 @@ pub(super) fn first_table_at(
     let (runners, rest) = first_runners_at(alloc, rest)?;
     let parts = TableParts {
         last_lease,
+        forgotten: ForgottenParts::none(alloc),
         runs: Sequence::new(runs),
         runners: Sequence::new(runners),
     };

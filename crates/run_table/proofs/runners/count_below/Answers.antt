@@ -1,7 +1,8 @@
 use Rattle.std.proofs.Common.{rules}
 use Rattle.std.proofs.lemmas.List.Sorted.{IsPartitionPoint-from_clause}
 use Rattle.table_model.specs.TableState.{is_below}
-use Rattle.run_table.proofs.RunnerOrder.{prefix_counted, parted_by_name}
+use Rattle.run_table.proofs.RunnerOrder.{parted_by_name}
+use Rattle.table_model.proofs.Filters.{prefix_counted}
 use Rattle.run_table.proofs.runners.count_below.Goals as goal
 
 pub returns : goal.returns

@@ -10,17 +10,17 @@ returns-then-leases-gt-LAST_NUMBER-clause-sound c = no (λ s. let le = s.last_le
 pub returns-then-not-are_legs_sound-clause-sound : goal.returns-then-not-are_legs_sound-clause-sound
 returns-then-not-are_legs_sound-clause-sound c =
     no (λ s. not_so c.are_legs_sound.result c.are_legs_sound.ensures (search rules)
-    (each_leg c.args.leases.now c.args.runs.now c.args.runners.now c.requires.legs c.requires.held s))
+    (each_leg c.args.leases.now c.args.forgotten.now c.args.runs.now c.args.runners.now c.requires.legs c.requires.held s))
 
 pub returns-then-not-are_runs_sound-clause-sound : goal.returns-then-not-are_runs_sound-clause-sound
 returns-then-not-are_runs_sound-clause-sound c =
     no (λ s. not_so c.are_runs_sound.result c.are_runs_sound.ensures (search rules)
-    (each_run c.args.leases.now c.args.runs.now c.args.runners.now c.requires.legs c.requires.held s))
+    (each_run c.args.leases.now c.args.forgotten.now c.args.runs.now c.args.runners.now c.requires.legs c.requires.held s))
 
 pub returns-then-not-are_runners_sound-clause-sound : goal.returns-then-not-are_runners_sound-clause-sound
 returns-then-not-are_runners_sound-clause-sound c =
     no (λ s. not_so c.are_runners_sound.result c.are_runners_sound.ensures (search rules)
-    (each_runner c.args.leases.now c.args.runs.now c.args.runners.now c.requires.legs c.requires.held s))
+    (each_runner c.args.leases.now c.args.forgotten.now c.args.runs.now c.args.runners.now c.requires.legs c.requires.held s))
 
 pub returns-then-not-do_deliveries_differ-clause-sound : goal.returns-then-not-do_deliveries_differ-clause-sound
 returns-then-not-do_deliveries_differ-clause-sound c =
@@ -37,6 +37,6 @@ returns-clause-sound c =
     let each_of_runners = c.are_runners_sound.ensures.0 (search rules) in
     let differ = c.do_deliveries_differ.ensures.0 (search rules) in
     Decides-like c.are_at_rest.result
-    (λ rests. to_sound leases runs runners c.requires.legs c.requires.held legs each each_of_runners c.requires.planned c.requires.ids
+    (λ rests. to_sound leases c.args.forgotten.now runs runners c.requires.legs c.requires.held legs each each_of_runners c.requires.fit c.requires.last c.requires.planned c.requires.ids
     c.requires.numbers c.requires.rise c.requires.kept last c.requires.groups rests differ)
     (λ s. s.no_rule_applies) c.are_at_rest.ensures.rest

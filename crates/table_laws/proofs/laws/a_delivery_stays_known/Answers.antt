@@ -1,4 +1,4 @@
-use Rattle.table_laws.proofs.Remembered.{created_is_known, known_after, known_after_step, known_is_answered}
+use Rattle.table_laws.proofs.Deliveries.{created_is_known, known_after, known_after_step, known_is_answered}
 use Rattle.table_laws.proofs.laws.a_delivery_stays_known.Goals as goal
 
 pub returns-clause-established : goal.returns-clause-established

@@ -17,4 +17,4 @@ admit-requires-clause-rests c =
 -- the run comes after those of the table
 pub admit-requires-clause-added : goal.admit-requires-clause-added
 admit-requires-clause-added c =
-    sound_with_it c.args.self.now c.args.prepared.now c.self.inside.runs c.requires.sound (ap (λ (t : TableState). t.runs) c.self.view_is)
+    sound_with_it c.args.self.now c.args.prepared.now c.self.inside.forgotten c.self.inside.runs c.requires.sound (ap (λ (t : TableState). t.runs) c.self.view_is)

@@ -52,13 +52,18 @@ pub returns-clause-step : goal.returns-clause-step
 returns-clause-step c =
     let lease_reply = lease_at c.self.inside.runs c.args.leg c.new-lease.result in
     ap Ok
-    (leased_table c.self.inside.last_lease c.self.inside.runs c.self.inside.runners c.args.self.now c.args.claim.now c.args.leg
+    (leased_table c.self.inside.last_lease c.self.inside.forgotten c.self.inside.runs c.self.inside.runners c.args.self.now c.args.claim.now c.args.leg
     c.new-lease.result c.get-self-inside.result lease_reply c.in_ok-runner.runner
     c.put.new.self c.lease.new.self c.settle.new.self c.self.view_is c.new-lease.ensures
     c.get-self-inside.ensures.value refl (sym c.in_ok-runner.ensures.runner) (same_Ok _ _ c.in_ok-put.ensures.put)
     (moved (goal.at.returns-clause-step c).After-lease) c.settle.ensures
     ∙ ap (λ (l : Leased). (
-      record { last_lease = c.get-self-inside.result; runs = c.settle.new.self; runners = c.put.new.self },
+      record {
+        last_lease = c.get-self-inside.result;
+        forgotten = c.self.inside.forgotten;
+        runs = c.settle.new.self;
+        runners = c.put.new.self;
+      },
       reply.Lease l,
     )) (sym c.in_ok-runner.ensures.lease_reply))
 

@@ -13,5 +13,5 @@ put-requires c =
 pub returns-clause-step : goal.returns-clause-step
 returns-clause-step c =
     ap Ok
-    (served_nothing c.args.self.now c.args.claim.now c.self.inside.last_lease c.self.inside.runs c.self.inside.runners c.put.new.self
+    (served_nothing c.args.self.now c.args.claim.now c.self.inside.last_lease c.self.inside.forgotten c.self.inside.runs c.self.inside.runners c.put.new.self
     c.in_ok-runner.runner c.requires.sound c.self.view_is (same_Ok _ _ c.in_ok-runner.ensures) (same_Ok _ _ c.in_ok-put.ensures.put))

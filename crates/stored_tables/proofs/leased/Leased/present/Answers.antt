@@ -21,7 +21,7 @@ pub returns-in_default-clause-of : goal.returns-in_default-clause-of
 returns-in_default-clause-of c =
     let find = get nat_cmp c.args.self.now.legs.now in
     let nothing : find c.args.lease ≡ None = search rules in
-    no_present c.args.self.now.last c.args.lease c.args.self.now.runs.now c.requires.ids (find c.args.lease) (c.requires.legs c.args.lease) nothing
+    no_present c.args.self.now.last c.args.lease c.args.self.now.runs.now (find c.args.lease) (c.requires.legs c.args.lease) nothing
 
 pub kept_lease-requires : goal.kept_lease-requires
 kept_lease-requires c =
@@ -31,7 +31,7 @@ kept_lease-requires c =
 pub returns-clause-of : goal.returns-clause-of
 returns-clause-of c =
     present_lease c.args.self.now.last c.args.lease c.in-Some-attempt_of.attempt c.args.self.now.runs.now c.in-Some.site.now c.in_ok-kept.kept
-    c.requires.ids c.requires.planned (search rules) c.requires.last (search rules) (has_lease (goal.at.returns-clause-of c).In-Some) c.in-Some-attempt_of.ensures
+    c.requires.planned (search rules) c.requires.last (search rules) (has_lease (goal.at.returns-clause-of c).In-Some) c.in-Some-attempt_of.ensures
     (same_Ok _ _ c.in_ok-kept.ensures)
 
 pub returns-in_default-attempt_of-clause-of : goal.returns-in_default-attempt_of-clause-of

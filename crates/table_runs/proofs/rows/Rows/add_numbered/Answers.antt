@@ -8,7 +8,7 @@ use Rattle.definitions.specs.SmallText.{Admitted}
 use Rattle.label_lists.specs.Lists.{ListsState, OnlyGrows as ListsGrow}
 use Rattle.run_marks.specs.Marked.{SameMarks}
 use Rattle.table_model.specs.inner.ActiveRuns.{is_active}
-use Rattle.table_model.specs.LegContext.{number_of_next, same_workflow}
+use Rattle.table_model.specs.LegContext.{same_workflow}
 use Rattle.table_model.specs.Runs.{RunState}
 use Rattle.table_model.specs.declared.holder.Holder.{Holder}
 use Rattle.table_bindings.specs.Bindings.{AreBound}
@@ -16,7 +16,7 @@ use Rattle.table_bindings.specs.inner.LabelNumbers.{LegsAreOffered}
 use Rattle.table_bindings.specs.declared.bindings.RunBindings.{RunBindings}
 use Rattle.table_bindings.proofs.LabelNumbers.{grows_more}
 use Rattle.table_runs.specs.inner.Begun.{HasAdded}
-use Rattle.table_runs.specs.inner.Counted.{AreCounted, count_of}
+use Rattle.table_runs.specs.inner.Counted.{AreCounted, count_of, number_among}
 use Rattle.table_runs.specs.inner.Delivered.{FindsFirst}
 use Rattle.table_runs.specs.inner.RowsKept.{RowState, RunsAreKept}
 use Rattle.table_runs.proofs.Counting.{one_counted}
@@ -109,10 +109,10 @@ pub offer_run-requires : goal.offer_run-requires
 offer_run-requires c = λ j l. (c.in_ok-bindings.ensures.lists j l).place
 
 -- its count, and what it asks for
-its_number : (c : In_ok-bindings) → c.args.number ≡ number_of_next c.self.inside.runs.items c.args.run.admitted
+its_number : (c : In_ok-bindings) → c.args.number ≡ number_among c.self.inside.runs.items c.args.run.admitted
 its_number c =
     c.requires.number
-    ∙ ap (λ (rows : RowState). number_of_next rows.runs c.args.run.admitted) (sym c.self.view_is)
+    ∙ ap (λ (rows : RowState). number_among rows.runs c.args.run.admitted) (sym c.self.view_is)
 
 its_bindings : (c : In_ok-bindings) → AreBound (c.self.inside.runs.items ++ c.args.run ∷ []) (c.self.inside.bindings.items ++ c.in_ok-bindings.bindings ∷ [])
 its_bindings c =

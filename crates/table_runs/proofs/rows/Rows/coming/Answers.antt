@@ -1,7 +1,7 @@
 use Rattle.std.proofs.Common.{◌≡◌, ◌<◌, ap, subst, sym, ◌∙◌, rules}
 use Rattle.std.specs.Prelude.{length}
 use Rattle.definitions.specs.SmallText.{Admitted}
-use Rattle.table_model.specs.LegContext.{number_of_next}
+use Rattle.table_runs.specs.inner.Counted.{number_among}
 use Rattle.table_runs.specs.inner.RowsKept.{RowState}
 use Rattle.table_runs.proofs.Counting.{few_counted, next_counted}
 use Rattle.table_runs.proofs.rows.Rows.coming.Goals as goal
@@ -15,10 +15,10 @@ pub returns-clause-number : goal.returns-clause-number
 returns-clause-number c =
     let items = c.self.inside.runs.items in
     let event = c.args.event.now in
-    let is : c.new-2.result ≡ c.next-counted.result.number = search rules in
+    let is : c.new.result ≡ c.next-counted.result.number = search rules in
     let same : c.in_ok-workflow.workflow ≡ event = search rules in
     is
     ∙ next_counted items c.self.inside.index.counts.counts c.self.invariant.0.counted c.in_ok-workflow.workflow c.next-counted.result.number
     c.next-counted.ensures.number
-    ∙ ap (λ (e : Admitted). number_of_next items e) same
-    ∙ ap (λ (rows : RowState). number_of_next rows.runs event) c.self.view_is
+    ∙ ap (λ (e : Admitted). number_among items e) same
+    ∙ ap (λ (rows : RowState). number_among rows.runs event) c.self.view_is

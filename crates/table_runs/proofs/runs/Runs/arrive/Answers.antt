@@ -2,11 +2,11 @@ use Rattle.std.proofs.Common.{◌≡◌, ◌++◌, ◌∷◌, ℕ, [], List, Ok,
 use Rattle.group_book.specs.Books.{BookState}
 use Rattle.table_model.specs.Settling.{arrived}
 use Rattle.table_model.specs.Groups.{group_at}
-use Rattle.table_model.specs.LegContext.{number_of_next}
 use Rattle.table_model.specs.Runs.{RunState}
 use Rattle.table_model.specs.Sound.{RunsAreSound}
 use Rattle.table_model.specs.declared.holder.Holder.{Holder}
 use Rattle.table_model.specs.declared.holder.Holder.TheVariants.{Run}
+use Rattle.table_runs.specs.inner.Counted.{number_among}
 use Rattle.table_runs.specs.inner.GroupsKept.{GroupsAreKept}
 use Rattle.table_runs.specs.inner.MarkedRuns.{AreMarked, is_due}
 use Rattle.table_runs.specs.inner.RowsKept.{RowState}
@@ -17,7 +17,7 @@ use Rattle.table_runs.proofs.runs.Runs.arrive.Goals as goal
 
 pub add-requires-clause-number : goal.add-requires-clause-number
 add-requires-clause-number c =
-    c.requires.number ∙ ap (λ (rs : List RunState). number_of_next rs c.args.run.admitted) (sym c.self.view_is)
+    c.requires.number ∙ ap (λ (rs : List RunState). number_among rs c.args.run.admitted) (sym c.self.view_is)
 
 pub enter-to_stop-requires-clause-sound : goal.enter-to_stop-requires-clause-sound
 enter-to_stop-requires-clause-sound c =

@@ -10,7 +10,7 @@ use Rattle.table_runs.proofs.runs.of.rows_of.Given as goal
 -- the runs before the index are added, each matching its plan
 abbrev pub invariant-loop-r : goal.invariant-loop-r
 invariant-loop-r l = record {
-  runs : AreRunsOf (take l.r l.parts) l.rows.runs;
+  runs : AreRunsOf l.forgotten (take l.r l.parts) l.rows.runs;
   stored : AreStored l.rows l.book;
   planned : SoFar (λ k x. IsAsPlanned (plan_of x.admitted.body) x.jobs) l.parts l.r;
   entries : l.book.entries ≡ [];

@@ -1,0 +1,5 @@
+pub mod CountIndexes
+pub mod FirstFound
+pub mod Increasing
+pub mod KeptDeliveries
+pub mod TwoLists

@@ -1,6 +1,0 @@
-use Rattle.std.proofs.Common.{arith}
-use Rattle.std.proofs.lemmas.Map.Text.{text_keys}
-use Rattle.table_runs.proofs.rows.deliveries.DeliveryIndexes.keep.Goals as goal
-
-pub returns : goal.returns
-returns c = λ other. grind (arith, text_keys)
