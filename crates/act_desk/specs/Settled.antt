@@ -20,7 +20,7 @@ entries_of_one seat (command, Err refusal) = []
 abbrev pub entries_of : ℕ → List Exchange → List Entry
 entries_of seat exchanges = flat_map (entries_of_one seat) exchanges
 
--- these answers say that the command was not entered: a full history, a full area, and an area of the first layout
+-- these answers say that the command was not entered: a full history, a full area, and an area of an earlier layout
 abbrev pub unentered_codes : List Code
 unentered_codes = HistoryFull ∷ AreaFull ∷ OldLayout ∷ []
 

@@ -78,7 +78,7 @@ first_head = record { version = current_version; generation = 1; text = empty_te
 
 pub means_first : MeansTable first_head [] empty
 means_first = record {
-  layout = layouts.Second;
+  layout = layouts.Third;
   layout_is = refl;
   first = empty;
   text = empty_encodes;
@@ -89,14 +89,15 @@ means_first = record {
 
 -- the bytes of the first area
 pub first_bytes : 0 ∷ after_gate first_head []
-    ≡ 0 ∷ 2 ∷ 0 ∷ 0 ∷ 0 ∷ 0 ∷ 0 ∷ 0 ∷ 0 ∷ 1 ∷ 0 ∷ 0 ∷ 0 ∷ 0 ∷ 0 ∷ 0 ∷ 0 ∷ 12 ∷ 0 ∷ 0 ∷ 0 ∷ 0 ∷ 0 ∷ 0 ∷ 0 ∷ 0 ∷ 0 ∷ 0 ∷ 0 ∷ 0 ∷ 0 ∷ []
+    ≡ 0 ∷ 4 ∷ 0 ∷ 0 ∷ 0 ∷ 0 ∷ 0 ∷ 0 ∷ 0 ∷ 1 ∷ 0 ∷ 0 ∷ 0 ∷ 0 ∷ 0 ∷ 0 ∷ 0 ∷ 20 ∷ 0 ∷ 0 ∷ 0 ∷ 0 ∷ 0 ∷ 0 ∷ 0 ∷ 0 ∷ 0 ∷ 0
+    ∷ 0 ∷ 0 ∷ 0 ∷ 0 ∷ 0 ∷ 0 ∷ 0 ∷ 0 ∷ 0 ∷ 0 ∷ 0 ∷ []
 first_bytes = refl
 
 pub first_fits : Fits first_head []
 first_fits = record { generation = omega arith; text = omega arith; each = _ }
 
 pub first_settled : (area : ℕ) (images : List ℕ → Type 0) → ((c : List ℕ) → images c → RecoversWhole area First Closed c first_head [])
-    → IsSettled area First Closed 1 30 layouts.Second empty images
+    → IsSettled area First Closed 1 38 layouts.Third empty images
 first_settled area images each = record {
   head = first_head;
   bodies = [];
@@ -110,4 +111,4 @@ first_settled area images each = record {
 pub first_recovers : (area : ℕ) (images : List ℕ → Type 0) → IsAreaLength area
     → ((c : List ℕ) → images c → RecoversWhole area First Closed c first_head []) → (c : List ℕ) → images c → RecoversTo empty c
 first_recovers area images size each =
-    settled_recovers area First Closed 1 30 layouts.Second empty images size (first_settled area images each)
+    settled_recovers area First Closed 1 38 layouts.Third empty images size (first_settled area images each)

@@ -78,12 +78,12 @@ later_is_short area text (c ∷ cs) most room = omega (arith, most, room, length
 -- ---- what the new area recovers to
 
 means_with : (head : Head) (table : TableState) (commands : List Command) → length commands ≤ 4294967295
-    → AllByRecursion IsEncoded commands → layout_of head.version ≡ Some layouts.Second → MeansTable head [] table
+    → AllByRecursion IsEncoded commands → layout_of head.version ≡ Some layouts.Third → MeansTable head [] table
     → MeansTable head (bodies_of commands) (after table commands)
 means_with head table [] few encoded second means = means
 means_with head table (c ∷ cs) few encoded second means =
     means_more head [] table (c ∷ cs) means
-    (subst (λ (l : Layout). (batch_format l).Takes (c ∷ cs)) (one_layout head layouts.Second means.layout second means.layout_is)
+    (subst (λ (l : Layout). (batch_format l).Takes (c ∷ cs)) (one_layout head layouts.Third means.layout second means.layout_is)
     (omega arith, few, encoded))
 
 -- The situation of a finish: the disk switches areas with these bytes, the last part, after what was put.
@@ -188,7 +188,7 @@ module _ {D : Type 0} (honest : D → Type 0) (images : D → List ℕ → Type 
 
   means_first : MeansTable next [] first
   means_first = record {
-    layout = layouts.Second;
+    layout = layouts.Third;
     layout_is = refl;
     first = first;
     text = f.snapshot.encodes;
@@ -287,7 +287,7 @@ module _ {D : Type 0} (honest : D → Type 0) (images : D → List ℕ → Type 
 
     pub finish_settles : Turns (λ head next bodies others. (c : List ℕ) → images disk c
         → RecoversWhole s.areas.len (other s.areas.side) Open c next others) → honest s.disk
-        → IsSettled s.areas.len (other s.areas.side) Open (s.generation + 1) (at + length bytes - 1) layouts.Second (table_of (as_state s))
+        → IsSettled s.areas.len (other s.areas.side) Open (s.generation + 1) (at + length bytes - 1) layouts.Third (table_of (as_state s))
         (images disk)
     finish_settles turns is_honest = record {
       head = next;
@@ -313,7 +313,7 @@ module _ {D : Type 0} (honest : D → Type 0) (images : D → List ℕ → Type 
       covered = covered;
       used = used;
       generation = s.generation + 1;
-      layout = layouts.Second;
+      layout = layouts.Third;
       begun = None;
     }
 
@@ -341,22 +341,22 @@ module _ {D : Type 0} (honest : D → Type 0) (images : D → List ℕ → Type 
             gate_fits = omega (arith, here, used_is, room);
             record_fits = λ less. absurd (omega (arith, less, all));
             encoded = subst (λ (l : List Entry). AllByRecursion IsEncoded (commands_of l)) (sym none) _;
-            in_layout = subst (λ (l : List Entry). AllByRecursion (HasCommand layouts.Second) (commands_of l)) (sym none) _;
+            in_layout = subst (λ (l : List Entry). AllByRecursion (HasCommand layouts.Third) (commands_of l)) (sym none) _;
             pending_batch_is = nothing ∙ ap (λ (l : List Entry). batch_state_of (commands_of l)) (sym none);
           }
 
       pub consistent_finished : IsSettled s.areas.len (other s.areas.side) Open (s.generation + 1) (at + length bytes - 1)
-          layouts.Second (table_of (as_state s)) (images disk)
+          layouts.Third (table_of (as_state s)) (images disk)
           → IsConsistent images (other s.areas.side) Open (done covered used)
       consistent_finished now =
           let same : table_of (as_state s) ≡ covered_table (done covered used) =
           ap (λ (l : List Entry). table_after s.base.value l) (sym (take_all covered s.history.items (omega (arith, all)))) in
-          let again = settled_at s.areas.len (other s.areas.side) Open (s.generation + 1) used layouts.Second (table_of (as_state s))
+          let again = settled_at s.areas.len (other s.areas.side) Open (s.generation + 1) used layouts.Third (table_of (as_state s))
           (covered_table (done covered used)) (images disk) same
-          (subst (λ (n : ℕ). IsSettled s.areas.len (other s.areas.side) Open (s.generation + 1) n layouts.Second (table_of (as_state s)) (images disk))
+          (subst (λ (n : ℕ). IsSettled s.areas.len (other s.areas.side) Open (s.generation + 1) n layouts.Third (table_of (as_state s)) (images disk))
           (sym here) now) in
           record {
-            each = λ c there. inl (settled_recovers s.areas.len (other s.areas.side) Open (s.generation + 1) used layouts.Second
+            each = λ c there. inl (settled_recovers s.areas.len (other s.areas.side) Open (s.generation + 1) used layouts.Third
                 (covered_table (done covered used)) (images disk) f.counted.size again c there);
             settled = λ _. again;
           }

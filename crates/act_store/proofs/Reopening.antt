@@ -8,13 +8,17 @@ use Rattle.run_plan.specs.declared.command.Command.{Command}
 use Rattle.run_plan.specs.declared.command.Command.TheVariants as command
 use Rattle.run_plan.specs.declared.reply.Reply.{Reply}
 use Rattle.run_plan.specs.declared.reply.Reply.TheVariants as reply
+use Rattle.table_model.specs.Sound.{ForgottenFit}
 use Rattle.table_model.specs.Step.{after, replies, step, stepped}
 use Rattle.table_model.specs.TableState.{TableState}
 use Rattle.table_laws.specs.ExactlyOnce.{HasNumber, IsRefused}
-use Rattle.table_laws.specs.Remembered.{AreNoLaterNumbers, AreNoOtherAttempts, KnowsAttempt, KnowsDelivery, LastCommandIs}
+use Rattle.table_laws.specs.Remembered.{AreNoDischarges, AreNoLaterNumbers, AreNoOtherAttempts, IsNotForgotten, KeepsDeliveryOf, KnowsAttempt}
+use Rattle.table_laws.specs.Remembered.{KnowsDelivery, LastCommandIs, reply_then}
+use Rattle.table_laws.proofs.Deliveries.{created_is_known, known_after, known_is_answered}
 use Rattle.table_laws.proofs.KnownAttempts.{attempt_after, begun_is_known, known_attempt_is_answered}
 use Rattle.table_laws.proofs.LeasesStay.{after_both}
-use Rattle.table_laws.proofs.Remembered.{answered_is_last, created_is_known, known_after, known_is_answered, last_after, last_is_answered}
+use Rattle.table_laws.proofs.Remembered.{answered_is_last, last_after, last_is_answered}
+use Rattle.table_laws.proofs.StepsStay.{fits_after, fits_then}
 use Rattle.act_store.specs.Entries.{IsLegal, commands_of, replies_of, table_after}
 use Rattle.act_store.specs.Reopened.{FindsAgain, IsAcknowledged, LeadTo, Life, requested_in}
 use Rattle.act_store.specs.declared.entry.Entry.{Entry}
@@ -116,35 +120,41 @@ module _ (life : Life) (before suffix : List Entry) (entry : Entry) (acknowledge
         ∙ after_both life.base (commands_of before) (entry.command ∷ later)
 
     -- an admission that is repeated
-    pub delivery_again : (id : ℕ) (event again : Admitted) → entry.command ≡ command.Admit event → entry.reply ≡ reply.Created id
-        → again.delivery ≡ event.delivery → step table (command.Admit again) ≡ (table, reply.Created id)
-    delivery_again id event again requested created same =
+    pub delivery_again : (id : ℕ) (event again : Admitted) → ForgottenFit life.base.forgotten → entry.command ≡ command.Admit event
+        → entry.reply ≡ reply.Created id → again.delivery ≡ event.delivery → KeepsDeliveryOf table id
+        → step table (command.Admit again) ≡ (table, reply.Created id)
+    delivery_again id event again fit requested created same keeps =
+        let fit_here : ForgottenFit here.forgotten = fits_after life.base (commands_of before) fit in
         let given : (stepped here (command.Admit event)).reply ≡ reply.Created id =
         ap (λ (c : Command). (stepped here c).reply) (sym requested) ∙ sym told ∙ created in
         let is : after (stepped here (command.Admit event)).table later ≡ table =
         ap (λ (c : Command). after (stepped here c).table later) (sym requested) ∙ sym found in
         let known : KnowsDelivery table event.delivery id =
         subst (λ (x : TableState). KnowsDelivery x event.delivery id) is
-        (known_after (stepped here (command.Admit event)).table later event.delivery id (created_is_known here event id given)) in
+        (known_after (stepped here (command.Admit event)).table later event.delivery id (fits_then here (command.Admit event) fit_here)
+        (created_is_known here event id fit_here given)
+        (subst (λ (x : TableState). KeepsDeliveryOf x id) (sym is) keeps)) in
         known_is_answered table again id (subst (λ (d : List ℕ). KnowsDelivery table d id) (sym same) known)
 
     -- a runner's command
     pub reply_again : (name : List ℕ) (number : ℕ) → HasNumber entry.command name number → (IsRefused entry.reply → ⊥)
-        → AreNoLaterNumbers name number later (replies (stepped here entry.command).table later) → step table entry.command ≡ (table, entry.reply)
-    reply_again name number numbered taken no_later =
+        → AreNoLaterNumbers name number later (replies (stepped here entry.command).table later)
+        → AreNoDischarges name later (replies (stepped here entry.command).table later)
+        → step table entry.command ≡ (table, reply_then (stepped here entry.command).table table entry.reply)
+    reply_again name number numbered taken no_later no_discharge =
         let next = (stepped here entry.command).table in
         let given = (stepped here entry.command).reply in
         let known = answered_is_last here entry.command name number numbered (λ refused. taken (refused.0, told ∙ refused.1)) in
-        let still = last_after entry.command name number given numbered next later known no_later in
-        last_is_answered table entry.command name entry.reply
-        (subst (λ (r : Reply). LastCommandIs table name entry.command r) (sym told)
-        (subst (λ (x : TableState). LastCommandIs x name entry.command given) (sym found) still))
+        let still = last_after entry.command name number given numbered next later known no_later no_discharge in
+        last_is_answered table entry.command name (reply_then next table entry.reply)
+        (subst (λ (r : Reply). LastCommandIs table name entry.command (reply_then next table r)) (sym told)
+        (subst (λ (x : TableState). LastCommandIs x name entry.command (reply_then next x given)) (sym found) still))
 
     -- a re-run
     pub attempt_again : (requested : Attempt) → entry.command ≡ command.Rerun requested → entry.reply ≡ reply.Again requested
         → AreNoOtherAttempts requested.run requested.attempt later (replies (stepped here entry.command).table later)
-        → step table (command.Rerun requested) ≡ (table, reply.Again requested)
-    attempt_again requested is given no_others =
+        → IsNotForgotten table requested.run → step table (command.Rerun requested) ≡ (table, reply.Again requested)
+    attempt_again requested is given no_others there =
         let next = (stepped here entry.command).table in
         let answered : (stepped here (command.Rerun requested)).reply ≡ reply.Again requested =
         ap (λ (c : Command). (stepped here c).reply) (sym is) ∙ sym told ∙ given in
@@ -153,4 +163,5 @@ module _ (life : Life) (before suffix : List Entry) (entry : Entry) (acknowledge
         (begun_is_known here requested answered) in
         known_attempt_is_answered table requested
         (subst (λ (x : TableState). KnowsAttempt x requested.run requested.attempt) (sym found)
-        (attempt_after next later requested.run requested.attempt known no_others))
+        (attempt_after next later requested.run requested.attempt known no_others
+        (subst (λ (x : TableState). IsNotForgotten x requested.run) found there)))

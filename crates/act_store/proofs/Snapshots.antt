@@ -67,12 +67,12 @@ pub snapshot_taken : (base table : TableState) (history : List Entry) (generatio
     → table ≡ table_after base history → b.place ≡ length history → b.put ≡ 0 → generation < 18446744073709551615
     → first_gate (text_length table) + 1 ≤ area
     → b.head_and_text.items ≡ head_bytes (record { version = current_version; generation = generation + 1; text = whole_table.encoding table })
-    → EncodesTable layouts.Second table (whole_table.encoding table) → b.last.encoded ≡ [] → IsSnapshot base history generation area b
+    → EncodesTable layouts.Third table (whole_table.encoding table) → b.last.encoded ≡ [] → IsSnapshot base history generation area b
 snapshot_taken base table history generation area b is place put newer room prefix encodes none =
     let nothing : drop b.place history ≡ [] = drop_all b.place history (omega (arith, place)) in
     record {
       text = whole_table.encoding table;
-      encodes = subst (λ (t : TableState). EncodesTable layouts.Second t (whole_table.encoding table))
+      encodes = subst (λ (t : TableState). EncodesTable layouts.Third t (whole_table.encoding table))
           (is ∙ ap (λ (l : List Entry). table_after base l) (sym (take_all b.place history (omega (arith, place))))) encodes;
       prefix_is = prefix;
       place = omega (arith, place);
@@ -108,7 +108,7 @@ pub snapshot_sliced : (base : TableState) (history : List Entry) (generation are
     → IsSnapshot base history generation area b → IsSnapshot base history generation area next
 snapshot_sliced base history generation area b next prefix place put last snapshot = record {
   text = snapshot.text;
-  encodes = subst (λ (n : ℕ). EncodesTable layouts.Second (table_after base (take n history)) snapshot.text) (sym place) snapshot.encodes;
+  encodes = subst (λ (n : ℕ). EncodesTable layouts.Third (table_after base (take n history)) snapshot.text) (sym place) snapshot.encodes;
   prefix_is = prefix ∙ snapshot.prefix_is;
   place = omega (arith, place, snapshot.place);
   put = omega (arith, put, ap (λ (l : List ℕ). length l) prefix);
@@ -140,7 +140,7 @@ snapshot_entered base history more entry generation area b is encoded snapshot =
     ∙ commands-append (drop b.place history) (entry ∷ []) in
     record {
       text = snapshot.text;
-      encodes = subst (λ (l : List Entry). EncodesTable layouts.Second (table_after base l) snapshot.text)
+      encodes = subst (λ (l : List Entry). EncodesTable layouts.Third (table_after base l) snapshot.text)
           (sym (ap (λ (l : List Entry). take b.place l) is ∙ take-append-le b.place history (entry ∷ []) snapshot.place)) snapshot.encodes;
       prefix_is = snapshot.prefix_is;
       place = omega (arith, snapshot.place, ap (λ (l : List Entry). length l) is, length-append history (entry ∷ []));

@@ -40,23 +40,29 @@ unfolding EncodesTable
 text_sound layout t text encodes = takes_sound layout t encodes.0
 
 -- the encoding of a sound table that has one, in the layout that is written
-pub table_encodes : (t : TableState) → IsSound t → table.Takes (stored_table t) → EncodesTable layouts.Second t (whole_table.encoding t)
+pub table_encodes : (t : TableState) → IsSound t → table.Takes (stored_table t) → EncodesTable layouts.Third t (whole_table.encoding t)
 unfolding EncodesTable
 table_encodes t sound takes = ((sound, takes), refl)
 
 -- ---- the empty table
 
--- its last lease, its number of runs and its number of runners, each 0 in four bytes
+-- its last lease, how many runs are forgotten, of how many workflows, its number of runs and its number of runners, each 0 in four bytes
 abbrev pub empty_text : List ℕ
-empty_text = 0 ∷ 0 ∷ 0 ∷ 0 ∷ 0 ∷ 0 ∷ 0 ∷ 0 ∷ 0 ∷ 0 ∷ 0 ∷ 0 ∷ []
+empty_text = 0 ∷ 0 ∷ 0 ∷ 0 ∷ 0 ∷ 0 ∷ 0 ∷ 0 ∷ 0 ∷ 0 ∷ 0 ∷ 0 ∷ 0 ∷ 0 ∷ 0 ∷ 0 ∷ 0 ∷ 0 ∷ 0 ∷ 0 ∷ []
 
 empty_takes : table.Takes (stored_table empty)
-empty_takes = ((omega arith, refl), ((omega arith, omega arith, tt), ((omega arith, omega arith, tt), refl)))
+empty_takes = (
+  (omega arith, refl),
+  (
+    ((omega arith, refl), ((omega arith, omega arith, tt), (refl, tt))),
+    ((omega arith, omega arith, tt), ((omega arith, omega arith, tt), refl)),
+  ),
+)
 
 empty_encoded : empty_text ≡ table.encoding (stored_table empty)
 unfolding word_bytes
 empty_encoded = refl
 
-pub empty_encodes : EncodesTable layouts.Second empty empty_text
+pub empty_encodes : EncodesTable layouts.Third empty empty_text
 unfolding EncodesTable
 empty_encodes = ((empty_is_sound, empty_takes), empty_encoded)

@@ -18,7 +18,7 @@ use Rattle.definitions.specs.Limits.{max_slice}
 abbrev pub last_counter : Refusal
 last_counter = Numbered LastCounter
 
--- the length of a table's text in the second layout, which a checkpoint writes
+-- the length of a table's text in the third layout, which a checkpoint writes
 abbrev pub text_length : TableState → ℕ
 text_length table = length (whole_table.encoding table)
 
@@ -100,14 +100,14 @@ refusal_of_finish s = if s.failed then Some failed_earlier else refusal_of_last 
 abbrev pub dropped : {D : Type 0} → StoreState D → StoreState D
 dropped s = record s { begun = None }
 
--- The other area is active, in the second layout, with the text and one record of the entries since. All entries are covered.
+-- The other area is active, in the third layout, with the text and one record of the entries since. All entries are covered.
 abbrev pub finished : {D : Type 0} → StoreState D → Checkpoint → D → StoreState D
 finished s checkpoint disk = record s {
   disk = disk;
   covered = length s.history;
   used = gate_after checkpoint.text (since s checkpoint);
   generation = s.generation + 1;
-  layout = layouts.Second;
+  layout = layouts.Third;
   begun = None;
 }
 

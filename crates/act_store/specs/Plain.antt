@@ -54,7 +54,7 @@ room_in s = s.area - s.used - (gate_length + frame_length)
 abbrev pub refusal_of_room : {D : Type 0} → StoreState D → Command → Option Refusal
 refusal_of_room s command = if nat_lt s.area (record_end s (pending_commands s ++ command ∷ [])) then Some area_full else None
 
--- before a checkpoint, an area of the first layout accepts no command that asks for an attempt
+-- before a checkpoint, an area of an earlier layout accepts no command that this layout has not
 abbrev pub refusal_of_form : {D : Type 0} → StoreState D → Command → Option Refusal
 refusal_of_form s command = if has_command s.layout command then refusal_of_room s command else Some old_layout
 
@@ -109,9 +109,9 @@ disk_not_empty = Numbered DiskNotEmpty
 
 -- the offset of the first record's gate in a new area, after the area's own gate, its head and the text of the empty table
 abbrev pub first_record : ℕ
-first_record = 30
+first_record = 38
 
--- A store created on an empty disk, in the second layout.
+-- A store created on an empty disk, in the third layout.
 abbrev pub fresh : {D : Type 0} → D → ℕ → StoreState D
 fresh disk area = record {
   disk = disk;
@@ -121,7 +121,7 @@ fresh disk area = record {
   covered = 0;
   used = first_record;
   generation = 1;
-  layout = layouts.Second;
+  layout = layouts.Third;
   begun = None;
   failed = false;
 }

@@ -29,15 +29,15 @@ impl<D: Disk> Store<D> {
     /// Carries out a command and appends it to the history with its reply. It makes no device call.
     ///
     /// It is refused, whether or not memory is available, with 52 if the device has failed; else with 46 if the history has `MAX_ENTRIES`
-    /// entries; else with 57 if the active area has the first layout and the command asks for an attempt; else with 47 if the record of
-    /// all entries that are not covered, including this one, does not fit the area. The only other failure is out of memory, 50. A refused
+    /// entries; else with 57 if the layout of the active area has not the command; else with 47 if the record of all entries that are not
+    /// covered, including this one, does not fit the area. The only other failure is out of memory, 50. A refused
     /// command is not entered, and the store does not change.
     /// Promise (The store): `apply` enters the command after the others with exactly the reply of the step, and returns reply and position; the
     ///   disk is as it was
     /// By: `act_store::Store::apply`, `entered`, `waits`
     /// Refusal (The store and the desk): `act_store::Store::apply`
-    /// When: Exactly, in order: 52: the store has failed. 46: the history has 100,000 entries. 57: the active area has the first layout and the
-    ///   command names an attempt
+    /// When: Exactly, in order: 52: the store has failed. 46: the history has 100,000 entries. 57: the layout of the active
+    ///   area has not the command
     /// Afterwards: nothing is entered, and no device is called
     /// By: `refused`, `cause`, `unchanged`
     /// Refusal (The store and the desk): `act_store::Store::apply`

@@ -28,7 +28,7 @@ use wf_value::{Code, Refusal};
 
 impl<D: Disk> Store<D> {
     /// Begins a checkpoint: encodes the current table, and closes the gate of the other area if it is open; otherwise it makes no device
-    /// call. It returns how many bytes are to be written: the head and the text in the second layout.
+    /// call. It returns how many bytes are to be written: the head and the text in the third layout.
     ///
     /// It is refused, whether or not memory is available, with 52 if the device has failed; else with 56 if a checkpoint is in progress;
     /// else with 48 if the generation is the last one; else with 47 if the text does not fit an area. The only other failures are 50, and
@@ -136,7 +136,7 @@ fn take_text(
     requires short { text < 2 ^ 32 }
     ensures prefix { IfOk result (λ b. b.head_and_text.items
         ≡ head_bytes (record { version = current_version; generation = generation; text = whole_table.encoding table.now })) }
-    ensures encodes { OnOk result (EncodesTable layouts.Second table.now (whole_table.encoding table.now)) }
+    ensures encodes { OnOk result (EncodesTable layouts.Third table.now (whole_table.encoding table.now)) }
     ensures place { IfOk result (λ b. b.place ≡ place) }
     ensures put { IfOk result (λ b. b.put ≡ 0) }
     ensures none { IfOk result (λ b. b.last.encoded ≡ []) }
@@ -161,10 +161,10 @@ fn area_header(alloc: Global, generation: u64, text: u64, table: &Table) -> Resu
     requires short { text < 2 ^ 32 }
     ensures prefix { IfOk result (λ bytes. bytes.items
         ≡ head_bytes (record { version = current_version; generation = generation; text = whole_table.encoding table.now })) }
-    ensures encodes { OnOk result (EncodesTable layouts.Second table.now (whole_table.encoding table.now)) }
+    ensures encodes { OnOk result (EncodesTable layouts.Third table.now (whole_table.encoding table.now)) }
     ensures refused { IfErr result (λ e. e ≡ no_memory) }
 {
-    let mut bytes = vec![in alloc; Layout::Second.byte(); 1]?;
+    let mut bytes = vec![in alloc; Layout::Third.byte(); 1]?;
     bytes.reserve((HEAD + text) as usize)?;
     bytes.extend_from_slice(&generation.to_be_bytes())?;
     bytes.extend_from_slice(&text.to_be_bytes())?;

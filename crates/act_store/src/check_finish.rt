@@ -23,13 +23,13 @@ use wf_value::{Code, Refusal};
 
 impl<D: Disk> Store<D> {
     /// Finishes a checkpoint: writes one record of the entries since it was begun after its text, syncs, opens the gate of its area, and
-    /// syncs. The area that is then active has the second layout. It returns how many entries are covered, which is all of them.
+    /// syncs. The area that is then active has the third layout. It returns how many entries are covered, which is all of them.
     ///
     /// It takes no memory, so `_alloc` is not used. It is refused with 52 if the device has failed; else with 56 if no checkpoint is in
     /// progress or some of its bytes are not written; else with 47 if the record does not fit. After 47 the checkpoint is dropped, and
     /// nothing else changes. The only other failure is 51, after which the store has failed. At each moment of the call the disk recovers
     /// to the entries that were covered, or to all; after `Ok`, to all.
-    /// Promise (The store): After the finish of a checkpoint each image recovers to all entries, by the other area in the second layout
+    /// Promise (The store): After the finish of a checkpoint each image recovers to all entries, by the other area in the third layout
     /// By: `act_store::Store::check_finish`, `recovers`, `finished` (`IsFinished`), `covered`
     /// Refusal (The store and the desk): `act_store::Store::check_finish`
     /// When: Exactly 52; 56: none is begun, or bytes are left
@@ -92,7 +92,7 @@ impl<D: Disk> Store<D> {
                 self.other = GateState::Open;
                 self.used = end - 1;
                 self.generation += 1;
-                self.layout = Layout::Second;
+                self.layout = Layout::Third;
                 self.covered = self.history.len();
                 self.pending_batch.truncate(0, 0);
                 self.begun = None;

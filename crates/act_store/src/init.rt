@@ -21,14 +21,15 @@ pub const MIN_AREA: u64 = 4_096;
 /// The greatest length of an area, in bytes.
 pub const MAX_AREA: u64 = 1_073_741_824;
 
-/// The contents of the first area of a new store, with a closed gate: the second layout, generation 1, the length-prefixed text of the
+/// The contents of the first area of a new store, with a closed gate: the third layout, generation 1, the length-prefixed text of the
 /// empty table, and a closed gate.
-const EMPTY_AREA: [u8; 31] = [
-    0, 2, 0, 0, 0, 0, 0, 0, 0, 1, 0, 0, 0, 0, 0, 0, 0, 12, 0, 0, 0, 0, 0, 0, 0, 0, 0, 0, 0, 0, 0,
+const EMPTY_AREA: [u8; 39] = [
+    0, 4, 0, 0, 0, 0, 0, 0, 0, 1, 0, 0, 0, 0, 0, 0, 0, 20, 0, 0, 0, 0, 0, 0, 0, 0, 0, 0, 0, 0, 0,
+    0, 0, 0, 0, 0, 0, 0, 0,
 ];
 
 /// The offset of the first record's gate.
-const USED: u64 = 30;
+const USED: u64 = 38;
 
 impl<D: Disk> Store<D> {
     /// Creates a store of two areas on an empty disk, each `area` bytes long. Its history is empty, and it recovers to the empty table.
@@ -74,7 +75,7 @@ impl<D: Disk> Store<D> {
                     covered: 0,
                     used: USED,
                     generation: 1,
-                    layout: Layout::Second,
+                    layout: Layout::Third,
                     pending_batch: PendingBatch::new(),
                     begun: None,
                     failed: false,

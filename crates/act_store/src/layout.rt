@@ -9,7 +9,10 @@ ghost use Rattle.act_store.specs.Layouts.{batch_format, has_command, layout_byte
 use run_plan::Command;
 use run_table::Table;
 use std::alloc::Global;
-use table_text::{is_in_first_layout, read_batch, read_first_batch, read_first_table, read_table};
+use table_text::{
+    is_in_first_layout, is_in_second_layout, read_batch, read_first_batch, read_first_table,
+    read_second_batch, read_second_table, read_table,
+};
 use wf_value::Refusal;
 
 /// The layout of an area, named by the byte after its gate.
@@ -17,8 +20,10 @@ use wf_value::Refusal;
 pub enum Layout {
     /// Runs without attempts, and kept leases without places. It is read and appended to; a checkpoint replaces it.
     First,
-    /// The layout of new stores and of checkpoints.
+    /// Runs with attempts, and kept leases with places; no run is forgotten. It too is read and appended to, and a checkpoint replaces it.
     Second,
+    /// What is kept of forgotten runs besides. The layout of new stores and of checkpoints.
+    Third,
 }
 
 impl Layout {
@@ -29,6 +34,7 @@ impl Layout {
         match byte {
             1 => Some(Layout::First),
             2 => Some(Layout::Second),
+            4 => Some(Layout::Third),
             _ => None,
         }
     }
@@ -40,6 +46,7 @@ impl Layout {
         match self {
             Layout::First => 1,
             Layout::Second => 2,
+            Layout::Third => 4,
         }
     }
 
@@ -49,7 +56,8 @@ impl Layout {
     {
         match self {
             Layout::First => is_in_first_layout(command),
-            Layout::Second => true,
+            Layout::Second => is_in_second_layout(command),
+            Layout::Third => true,
         }
     }
 
@@ -64,7 +72,8 @@ impl Layout {
     {
         match self {
             Layout::First => read_first_table(alloc, bytes),
-            Layout::Second => read_table(alloc, bytes),
+            Layout::Second => read_second_table(alloc, bytes),
+            Layout::Third => read_table(alloc, bytes),
         }
     }
 
@@ -79,7 +88,8 @@ impl Layout {
     {
         match self {
             Layout::First => read_first_batch(alloc, bytes),
-            Layout::Second => read_batch(alloc, bytes),
+            Layout::Second => read_second_batch(alloc, bytes),
+            Layout::Third => read_batch(alloc, bytes),
         }
     }
 }

@@ -132,7 +132,7 @@ static OF_WORKFLOWS: [Explanation; 17] = [
 static OF_COMMANDS: [Explanation; 10] = [
     Explanation {
         number: "40",
-        meaning: "there is no run with this id",
+        meaning: "there is no run with this id, or it is forgotten",
         input: "the line: look 1, before any admit",
         remedy: "use an id from the answer to an admit, such as 1 in: created 1",
     },
@@ -144,9 +144,9 @@ static OF_COMMANDS: [Explanation; 10] = [
     },
     Explanation {
         number: "42",
-        meaning: "the runner has a lease already, and holds one at a time",
+        meaning: "the runner has a lease: it holds one at a time, and is not discharged while it holds one",
         input: "the line: claim r1 2 linux, after claim r1 1 linux was answered with a lease",
-        remedy: "report that leg by done first, or claim under the name of another runner",
+        remedy: "report that leg by done first, or the runner by lost; or claim under the name of another runner",
     },
     Explanation {
         number: "43",
@@ -164,7 +164,7 @@ static OF_COMMANDS: [Explanation; 10] = [
     },
     Explanation {
         number: "45",
-        meaning: "no command of this runner is known",
+        meaning: "no command of this runner is known, or it was discharged after its last one",
         input: "the line: beat r9 1, before any claim of r9",
         remedy: "claim under this name first; names of runners compare by bytes",
     },
@@ -184,9 +184,11 @@ static OF_COMMANDS: [Explanation; 10] = [
     },
     Explanation {
         number: "48",
-        meaning: "a counter is at its last value: 100,000 runs, 999,999,999 leases, or 1,000 attempts of a run",
+        meaning: "a counter is at its last value: 100,000 runs that are not forgotten, 999,999,999 runs or leases in all, or \
+            1,000 attempts of a run",
         input: "the admit of a run past 100,000",
-        remedy: "start again with an empty table; instead of a 1,001st attempt, admit the event again under another delivery id",
+        remedy: "forget the runs that have completed: forget RUN, with the id of the last of them; instead of a 1,001st \
+            attempt, admit the event again under another delivery id",
     },
     Explanation {
         number: "49",
@@ -248,8 +250,8 @@ static OF_STORES: [Explanation; 8] = [
     },
     Explanation {
         number: "57",
-        meaning: "the active area has the layout of an earlier program, in which a run has only its first attempt",
-        input: "a re-run, over a file of an earlier program that has no room for a checkpoint",
+        meaning: "the active area has the layout of an earlier program, which does not have this command",
+        input: "a forget, over a file of an earlier program that has no room for a checkpoint",
         remedy: "copy the store into a file with larger areas by acts grow, as after 47; a service upgrades a file to the current \
             layout before it is ready, if a checkpoint fits, and so do the checkpoints beside its sessions",
     },

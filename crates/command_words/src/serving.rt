@@ -24,6 +24,9 @@ const MAX_IDLE: u64 = 86_400;
 /// The largest number of commands after which a history turns over.
 const MAX_COMMANDS: u64 = 50_000;
 
+/// The most runs of which `--keep-runs` keeps no more.
+const MAX_KEPT_RUNS: u64 = 50_000;
+
 /// The number of sessions of a round on each port.
 #[derive(Drop)]
 pub struct Sessions {
@@ -52,6 +55,8 @@ pub enum Span<'a> {
         commands: u64,
         /// How long a client may stay silent, in seconds.
         idle: u64,
+        /// How many runs are kept, the last ones, if the others are forgotten once they have completed.
+        keep_runs: Option<u32>,
         /// The port to look at the service, if there is one.
         view_port: Option<u16>,
         /// The folder of the board that this port shows, if it shows one.
@@ -144,6 +149,18 @@ fn turn_over_option<'a>(alloc: Global) -> Result<Arg<'a>, AllocError> {
         .requires_arg("forever")
 }
 
+/// How many runs a service without end keeps.
+fn keep_runs_option<'a>(alloc: Global) -> Result<Arg<'a>, AllocError> {
+    Arg::new(alloc, "keep-runs")
+        .long("keep-runs")
+        .value_name("RUNS")
+        .help(
+            "With --forever: forgets completed runs but the last RUNS, 1 to 50000, at the start and whenever a new history begins",
+        )
+        .value_parser(ValueParser::unsigned(1, MAX_KEPT_RUNS))
+        .requires_arg("forever")
+}
+
 /// `acts serve FILE --hook-port PORT --runner-port PORT --sessions COUNT`, with `--rounds ROUNDS`, or with `--forever`
 /// and its options.
 pub(crate) fn serve_command<'a>(alloc: Global) -> Made<'a> {
@@ -176,6 +193,7 @@ fn with_span<'a>(alloc: Global, serve: Made<'a>) -> Made<'a> {
     let serve = with_arg(serve, forever_option(alloc));
     let serve = with_arg(serve, idle_option(alloc));
     let serve = with_arg(serve, turn_over_option(alloc));
+    let serve = with_arg(serve, keep_runs_option(alloc));
     let serve = with_arg(serve, view_port_option(alloc));
     with_arg(serve, board_option(alloc))
 }
@@ -183,6 +201,11 @@ fn with_span<'a>(alloc: Global, serve: Made<'a>) -> Made<'a> {
 /// The port that an option names.
 fn port_of(matches: &ArgMatches<'_>, name: &str) -> Option<u16> {
     u16::try_from(matches.get_one::<u64>(name)?).ok()
+}
+
+/// How many runs are to be kept, if not all.
+fn keep_runs_of(matches: &ArgMatches<'_>) -> Option<u32> {
+    u32::try_from(matches.get_one::<u64>("keep-runs")?).ok()
 }
 
 /// How long `acts serve` is to serve.
@@ -193,6 +216,7 @@ fn span_of<'a>(matches: &ArgMatches<'a>) -> Option<Span<'a>> {
     Some(Span::Forever {
         commands: matches.get_one::<u64>("turn-over")?,
         idle: matches.get_one::<u64>("idle")?,
+        keep_runs: keep_runs_of(matches),
         view_port: port_of(matches, "view-port"),
         board: matches.get_str("board"),
     })

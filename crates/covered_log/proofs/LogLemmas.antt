@@ -6,7 +6,7 @@ use Rattle.wf_value.specs.Gives.{Gives}
 use Rattle.wf_value.specs.declared.refusal.Refusal.{Refusal}
 use Rattle.covered_log.specs.KeptState.{KeptState, end_of, with_text, without_text}
 use Rattle.definitions.specs.Limits.{most_kept}
-use Rattle.covered_log.specs.Lines.{Begins, Change, Displaced, Entered, LegStands, Stands, Missed, entries_in, entries_of, line_of, lines_after, lines_of}
+use Rattle.covered_log.specs.Lines.{Begins, Change, Displaced, Entered, Forgets, LegStands, Stands, Missed, entries_in, entries_of, line_of, lines_after, lines_of}
 use Rattle.covered_log.specs.LogState.{IsLog}
 
 -- each change has a line
@@ -24,20 +24,22 @@ lines_after-push place (d ∷ cs) c =
 -- one more change is at most one more entry
 pub entries_of-push : (cs : List Change) (c : Change) → length (entries_of (cs ++ c ∷ [])) ≡ length (entries_of cs) + length (entries_in c)
 entries_of-push [] (Entered at command reply) = refl
-entries_of-push [] (Begins at runs seen) = refl
+entries_of-push [] (Begins at t seen) = refl
 entries_of-push [] (Stands at id run) = refl
 entries_of-push [] (LegStands at news) = refl
 entries_of-push [] (Displaced at runs r run) = refl
+entries_of-push [] (Forgets at through) = refl
 entries_of-push [] Missed = refl
 entries_of-push (d ∷ cs) c =
     grind (arith, entries_of-push cs c, length-append (entries_in d) (entries_of cs), length-append (entries_in d) (entries_of (cs ++ c ∷ [])))
 
 entries_in-few : (c : Change) → length (entries_in c) ≤ 1
 entries_in-few (Entered at command reply) = omega arith
-entries_in-few (Begins at runs seen) = omega arith
+entries_in-few (Begins at t seen) = omega arith
 entries_in-few (Stands at id run) = omega arith
 entries_in-few (LegStands at news) = omega arith
 entries_in-few (Displaced at runs r run) = omega arith
+entries_in-few (Forgets at through) = omega arith
 entries_in-few Missed = omega arith
 
 -- there are no more entries than changes

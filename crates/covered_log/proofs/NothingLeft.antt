@@ -1,12 +1,12 @@
 -- Once a table was told, nothing is left to tell of it.
-use Rattle.std.proofs.Common.{◌≡◌, ◌∙◌, ◌+◌, ℕ, zero, suc, List, [], ◌∷◌, ◌++◌, length, map, refl, subst, ap, ap₂, arith, inl, inr}
+use Rattle.std.proofs.Common.{◌≡◌, ◌∙◌, ◌+◌, ◌-◌, ℕ, zero, suc, List, [], ◌∷◌, ◌++◌, length, map, refl, subst, ap, ap₂, arith, inl, inr}
 use Rattle.std.proofs.lemmas.Bool.{eq-eqb}
 use Rattle.std.proofs.lemmas.Bool.Decides.{nat_tests}
 use Rattle.std.proofs.lemmas.Option.{slice_get-map}
 use Rattle.std.proofs.lemmas.Slice.Eq.{bytes_eq-Decides}
 use Rattle.std.specs.List.{enumerate_from, flat_map, list_any}
 use Rattle.std.specs.Option.{option_map_or}
-use Rattle.std.specs.Prelude.{Bool, true, false, ◌&&◌, ◌||◌, ◌==◌, ◌⊎◌, None, Option, Some, drop, nat_eq, not, option_and_then, option_map, slice_get, if◌then◌else◌}
+use Rattle.std.specs.Prelude.{Bool, true, false, ◌&&◌, ◌||◌, ◌==◌, ◌⊎◌, None, Option, Some, drop, nat_eq, nat_lt, not, option_and_then, option_map, slice_get, if◌then◌else◌}
 use Rattle.std.specs.Str.{bytes_eq}
 use Rattle.table_model.specs.Runs.{JobState, LegState, RunState, leg_site, placed}
 use Rattle.table_model.specs.TableState.{TableState}
@@ -15,8 +15,8 @@ use Rattle.table_model.specs.declared.phases.RunPhase.TheVariants as phase
 use Rattle.table_views.specs.LeaseNames.{NamesState}
 use Rattle.table_views.specs.RunViews.{leg_news}
 use Rattle.table_views.specs.declared.told_legs.LegNews.{LegNews}
-use Rattle.covered_log.specs.Lines.{Change, Displaced}
-use Rattle.covered_log.specs.Standings.{Standing, displaced_news, is_displaced, is_over, is_same, is_same_leg, is_same_lease, is_stopped, is_told, job_site, knows_stop, legs_to_keep, moved_leg, moved_legs, moved_of_job, moved_run, news_of, of_legs, run_news, standing_of, table_news, told_after, told_leg, told_of}
+use Rattle.covered_log.specs.Lines.{Change, Displaced, Forgets}
+use Rattle.covered_log.specs.Standings.{Standing, Standings, displaced_news, is_displaced, is_over, is_same, is_same_lease, is_same_leg, is_stopped, is_told, job_site, knows_stop, left_of, legs_to_keep, moved_leg, moved_legs, moved_of_job, moved_run, news_of, of_legs, run_news, runs_after, runs_news, standing_of, table_news, told_after, told_leg, told_of}
 
 -- ---- what is told of each element with its index
 
@@ -83,19 +83,19 @@ same_stop run = by (is_stopped run) (same_number run.attempt)
     by false same = refl
 
 -- a leg that is told as it stands
-stays_told : (names : NamesState) (t : TableState) (s : Standing) (attempt : ℕ) (r j l : ℕ) (leg : LegState)
-    → told_leg s attempt (leg_site r j l) ≡ Some leg → moved_leg names t s attempt (leg_site r j l) leg ≡ []
-stays_told names t s attempt r j l leg is =
-    ap (λ (o : Option LegState). if option_map_or (λ told. is_same_leg told leg) o false then [] else leg_news names t (leg_site r j l) attempt leg ∷ []) is
-    ∙ ap (λ (b : Bool). if b then [] else leg_news names t (leg_site r j l) attempt leg ∷ []) (same_leg leg)
+stays_told : (names : NamesState) (t : TableState) (s : Standing) (run : RunState) (r j l : ℕ) (leg : LegState)
+    → told_leg s run.attempt (leg_site r j l) ≡ Some leg → moved_leg names t s run (leg_site r j l) leg ≡ []
+stays_told names t s run r j l leg is =
+    ap (λ (o : Option LegState). if option_map_or (λ told. is_same_leg told leg) o false then [] else leg_news names t (leg_site r j l) run leg ∷ []) is
+    ∙ ap (λ (b : Bool). if b then [] else leg_news names t (leg_site r j l) run leg ∷ []) (same_leg leg)
 
 -- the legs of a run that goes on are told as they stand
 told_legs_stay : (names : NamesState) (t : TableState) (r : ℕ) (run : RunState)
     → legs_to_keep run.phase run.jobs ≡ map (λ (j : JobState). j.legs) run.jobs → moved_legs names t (standing_of run) r run ≡ []
 told_legs_stay names t r run keeps =
-    none_placed (λ (x : ℕ × JobState). moved_of_job names t (standing_of run) run.attempt (job_site r x.0) x.1.legs) run.jobs
+    none_placed (λ (x : ℕ × JobState). moved_of_job names t (standing_of run) run (job_site r x.0) x.1.legs) run.jobs
     (λ j job at.
-    none_placed (λ (x : ℕ × LegState). moved_leg names t (standing_of run) run.attempt (leg_site r j x.0) x.1) job.legs
+    none_placed (λ (x : ℕ × LegState). moved_leg names t (standing_of run) run (leg_site r j x.0) x.1) job.legs
     (λ l leg is.
     let legs : slice_get (legs_to_keep run.phase run.jobs) j ≡ Some job.legs =
     ap (λ (ls : List (List LegState)). slice_get ls j) keeps ∙ slice_get-map (λ (x : JobState). x.legs) run.jobs j
@@ -104,7 +104,7 @@ told_legs_stay names t r run keeps =
     ap (λ (b : Bool). if b then option_and_then (λ (ls : List LegState). slice_get ls l) (slice_get (legs_to_keep run.phase run.jobs) j) else None)
     (same_number run.attempt)
     ∙ ap (option_and_then (λ (ls : List LegState). slice_get ls l)) legs ∙ is in
-    stays_told names t (standing_of run) run.attempt r j l leg there))
+    stays_told names t (standing_of run) run r j l leg there))
 
 -- ---- nothing is left to tell
 
@@ -117,12 +117,12 @@ record IsAsTold (names : NamesState) (t : TableState) (s : Standing) (r : ℕ) (
 -- what is told where an attempt is not over
 abbrev of_all : ℕ → List ℕ → NamesState → TableState → Standing → ℕ → RunState → List Change
 of_all at cancelled names t s r run =
-    run_news at t s r run ++ displaced_news at cancelled t s r run ++ of_legs at (moved_legs names t s r run)
+    run_news at t s run ++ displaced_news at cancelled t s r run ++ of_legs at (moved_legs names t s r run)
 
 all_is_told : (at : ℕ) (cancelled : List ℕ) (names : NamesState) (t : TableState) (s : Standing) (r : ℕ) (run : RunState)
     → IsAsTold names t s r run → of_all at cancelled names t s r run ≡ []
 all_is_told at cancelled names t s r run told =
-    ap (λ (b : Bool). (if b then [] else moved_run at t s r run ∷ []) ++ displaced_news at cancelled t s r run ++ of_legs at (moved_legs names t s r run))
+    ap (λ (b : Bool). (if b then [] else moved_run at t s run ∷ []) ++ displaced_news at cancelled t s r run ++ of_legs at (moved_legs names t s r run))
     told.same
     ∙ ap (λ (b : Bool). (if not b && not (list_any (nat_eq run.id) cancelled) then Displaced at t.runs r run ∷ [] else [])
     ++ of_legs at (moved_legs names t s r run)) told.stop
@@ -186,11 +186,29 @@ none_after at cancelled names t (Some s) r run = by (is_over s run) (is_told nam
     by false true over is = no_news at cancelled names t s r run (inr (is_as_told names t s r run is))
     by false false over is = none_left at cancelled names t r run
 
-pub nothing_left : (at : ℕ) (cancelled : List ℕ) (names : NamesState) (t : TableState) (known : List Standing)
-    → table_news at cancelled names t (told_after names t known) ≡ []
-nothing_left at cancelled names t known =
+no_runs_news : (at : ℕ) (cancelled : List ℕ) (names : NamesState) (t : TableState) (known : List Standing)
+    → runs_news at cancelled names t (runs_after names t known) ≡ []
+no_runs_news at cancelled names t known =
     let f : ℕ × RunState → Standing = λ x. told_of names t (slice_get known x.0) x.0 x.1 in
-    none_placed (λ (x : ℕ × RunState). news_of at cancelled names t (slice_get (told_after names t known) x.0) x.0 x.1) t.runs
+    none_placed (λ (x : ℕ × RunState). news_of at cancelled names t (slice_get (runs_after names t known) x.0) x.0 x.1) t.runs
     (λ r run is.
     ap (λ (o : Option Standing). news_of at cancelled names t o r run) (told_at f t.runs (drop (length t.runs) known) r run is)
     ∙ none_after at cancelled names t (slice_get known r) r run)
+
+not_less : (n : ℕ) → nat_lt n n ≡ false
+not_less n = by (nat_lt n n) refl
+  where
+    by : (b : Bool) → nat_lt n n ≡ b → b ≡ false
+    by true is = absurd (grind (arith, nat_tests, is))
+    by false is = refl
+
+-- of a table that was told
+pub nothing_left : (at : ℕ) (cancelled : List ℕ) (names : NamesState) (t : TableState) (known : Standings)
+    → table_news at cancelled names t (told_after names t known) ≡ []
+nothing_left at cancelled names t known =
+    let through : ℕ = t.forgotten.through in
+    let after : List Standing = runs_after names t (left_of t known) in
+    let none : through - through ≡ 0 = omega arith in
+    ap (λ (b : Bool). (if b then Forgets at through ∷ [] else []) ++ runs_news at cancelled names t (drop (through - through) after)) (not_less through)
+    ∙ ap (λ (n : ℕ). runs_news at cancelled names t (drop n after)) none
+    ∙ no_runs_news at cancelled names t (left_of t known)

@@ -1,5 +1,5 @@
 -- How runs and legs stood when they were last told, and what is told of them after a commit.
-use Rattle.std.specs.Prelude.{ℕ, ◌+◌, ◌==◌, ◌&&◌, List, [], ◌∷◌, ◌++◌, codes, drop, length, map, nat_eq, not, slice_get, ◌||◌, Bool, true, false, Option, Some, None, option_and_then, if◌then◌else◌}
+use Rattle.std.specs.Prelude.{ℕ, ◌-◌, ◌==◌, ◌&&◌, List, [], ◌∷◌, ◌++◌, codes, drop, length, map, nat_eq, nat_lt, not, slice_get, ◌||◌, Bool, true, false, Option, Some, None, option_and_then, if◌then◌else◌}
 use Rattle.std.specs.List.{flat_map, list_all, list_any}
 use Rattle.std.specs.Option.{option_map_or}
 use Rattle.std.specs.Str.{bytes_eq}
@@ -13,7 +13,7 @@ use Rattle.table_model.specs.declared.sites.LegSite.{LegSite}
 use Rattle.table_views.specs.LeaseNames.{NamesState}
 use Rattle.table_views.specs.RunViews.{leg_news}
 use Rattle.table_views.specs.declared.told_legs.LegNews.{LegNews}
-use Rattle.covered_log.specs.Lines.{Begins, Change, Displaced, LegStands, Stands}
+use Rattle.covered_log.specs.Lines.{Begins, Change, Displaced, Forgets, LegStands, Stands}
 
 -- a run: its attempt, its status, its conclusion, or `-`, whether it was stopped, and the legs of its jobs
 pub record Standing : Type 0 where
@@ -53,6 +53,15 @@ standing_of run = record {
   jobs = legs_to_keep run.phase run.jobs;
 }
 
+-- how runs stood when they were last told, and which were forgotten then: those with ids through one
+pub record Standings : Type 0 where
+  pub through : ℕ
+  pub runs : List Standing
+
+-- how those of a table stand
+abbrev pub standings_of : TableState → Standings
+standings_of t = record { through = t.forgotten.through; runs = map standing_of t.runs }
+
 -- ---- what was told
 
 -- whether the attempt was told as completed
@@ -85,30 +94,30 @@ is_same_leg told leg = bytes_eq (leg_text told.phase) (leg_text leg.phase) && is
 
 -- ---- legs that stand differently than they were told
 
-abbrev pub moved_leg : NamesState → TableState → Standing → ℕ → LegSite → LegState → List LegNews
-moved_leg names t s attempt p leg =
-    if option_map_or (λ told. is_same_leg told leg) (told_leg s attempt p) false then [] else leg_news names t p attempt leg ∷ []
+abbrev pub moved_leg : NamesState → TableState → Standing → RunState → LegSite → LegState → List LegNews
+moved_leg names t s run p leg =
+    if option_map_or (λ told. is_same_leg told leg) (told_leg s run.attempt p) false then [] else leg_news names t p run leg ∷ []
 
 -- those of a job
-abbrev pub moved_of_job : NamesState → TableState → Standing → ℕ → JobSite → List LegState → List LegNews
-moved_of_job names t s attempt p legs = flat_map (λ l. moved_leg names t s attempt (leg_site p.run p.job l.0) l.1) (placed legs)
+abbrev pub moved_of_job : NamesState → TableState → Standing → RunState → JobSite → List LegState → List LegNews
+moved_of_job names t s run p legs = flat_map (λ l. moved_leg names t s run (leg_site p.run p.job l.0) l.1) (placed legs)
 
 abbrev pub job_site : ℕ → ℕ → JobSite
 job_site r j = record { run = r; job = j }
 
 -- those of run `r`, in the order of job and leg
 abbrev pub moved_legs : NamesState → TableState → Standing → ℕ → RunState → List LegNews
-moved_legs names t s r run = flat_map (λ j. moved_of_job names t s run.attempt (job_site r j.0) j.1.legs) (placed run.jobs)
+moved_legs names t s r run = flat_map (λ j. moved_of_job names t s run (job_site r j.0) j.1.legs) (placed run.jobs)
 
 -- ---- what is told of run `r`, of which this was told before, if anything was
 
 -- it begins an attempt: all members of its row
-abbrev pub beginning : ℕ → TableState → ℕ → RunState → Change
-beginning at t r run = option_map_or (λ seen. Begins at t.runs seen) (seen_of t.runs (r + 1)) (Stands at (r + 1) run)
+abbrev pub beginning : ℕ → TableState → RunState → Change
+beginning at t run = Begins at t (seen_of run)
 
 -- it does not stand as it was told
-abbrev pub moved_run : ℕ → TableState → Standing → ℕ → RunState → Change
-moved_run at t s r run = if s.attempt == run.attempt then Stands at (r + 1) run else beginning at t r run
+abbrev pub moved_run : ℕ → TableState → Standing → RunState → Change
+moved_run at t s run = if s.attempt == run.attempt then Stands at run.id run else beginning at t run
 
 -- It made way for a newcomer of its group: it was stopped since it was told, and by none of these commands, which cancelled runs with these ids.
 abbrev pub is_displaced : List ℕ → Standing → RunState → Bool
@@ -121,17 +130,17 @@ abbrev pub of_legs : ℕ → List LegNews → List Change
 of_legs at legs = map (λ news. LegStands at news) legs
 
 -- the run's own line
-abbrev pub run_news : ℕ → TableState → Standing → ℕ → RunState → List Change
-run_news at t s r run = if is_same s run then [] else moved_run at t s r run ∷ []
+abbrev pub run_news : ℕ → TableState → Standing → RunState → List Change
+run_news at t s run = if is_same s run then [] else moved_run at t s run ∷ []
 
 -- First the run, if it is new or not as it was told; that it made way, if it did; then each leg that is not as it was told. Of an attempt that was
 -- told as completed nothing more is told. `cancelled` are the runs that commands have cancelled since.
 abbrev pub news_of : ℕ → List ℕ → NamesState → TableState → Option Standing → ℕ → RunState → List Change
 news_of at cancelled names t None r run =
-    beginning at t r run ∷ displaced_news at cancelled t untold r run ++ of_legs at (moved_legs names t untold r run)
+    beginning at t run ∷ displaced_news at cancelled t untold r run ++ of_legs at (moved_legs names t untold r run)
 news_of at cancelled names t (Some s) r run =
     if is_over s run then []
-    else run_news at t s r run ++ displaced_news at cancelled t s r run ++ of_legs at (moved_legs names t s r run)
+    else run_news at t s run ++ displaced_news at cancelled t s r run ++ of_legs at (moved_legs names t s r run)
 
 -- whether nothing of it is to be told
 abbrev pub is_told : NamesState → TableState → Standing → ℕ → RunState → Bool
@@ -145,10 +154,25 @@ told_of names t (Some s) r run =
     else if is_told names t s r run then s
     else standing_of run
 
--- ---- what is told of a table, run by run in the order of their ids
+-- ---- what is told of the runs of a table, run by run in the order of their ids
 
-abbrev pub table_news : ℕ → List ℕ → NamesState → TableState → List Standing → List Change
-table_news at cancelled names t known = flat_map (λ x. news_of at cancelled names t (slice_get known x.0) x.0 x.1) (placed t.runs)
+abbrev pub runs_news : ℕ → List ℕ → NamesState → TableState → List Standing → List Change
+runs_news at cancelled names t known = flat_map (λ x. news_of at cancelled names t (slice_get known x.0) x.0 x.1) (placed t.runs)
 
-abbrev pub told_after : NamesState → TableState → List Standing → List Standing
-told_after names t known = map (λ x. told_of names t (slice_get known x.0) x.0 x.1) (placed t.runs) ++ drop (length t.runs) known
+abbrev pub runs_after : NamesState → TableState → List Standing → List Standing
+runs_after names t known = map (λ x. told_of names t (slice_get known x.0) x.0 x.1) (placed t.runs) ++ drop (length t.runs) known
+
+-- ---- what is told of a table: first which runs it has forgotten, if these are more, and then what its runs have become
+
+abbrev pub forgotten_news : ℕ → TableState → Standings → List Change
+forgotten_news at t known = if nat_lt known.through t.forgotten.through then Forgets at t.forgotten.through ∷ [] else []
+
+-- how the runs stood that are left
+abbrev pub left_of : TableState → Standings → List Standing
+left_of t known = drop (t.forgotten.through - known.through) known.runs
+
+abbrev pub table_news : ℕ → List ℕ → NamesState → TableState → Standings → List Change
+table_news at cancelled names t known = forgotten_news at t known ++ runs_news at cancelled names t (left_of t known)
+
+abbrev pub told_after : NamesState → TableState → Standings → Standings
+told_after names t known = record { through = t.forgotten.through; runs = runs_after names t (left_of t known) }

@@ -1,5 +1,5 @@
 ghost use Rattle.std.specs.Prelude.{◌≡◌, ◌+◌, ◌↔◌, ◌≤◌, IfNone, IfOk, IfSome, IsTrue, OnErr, OnOk, false, length, true};
-ghost use Rattle.covered_log.specs.Lines.{Begins, Displaced, Entered, LegStands, Missed, Stands};
+ghost use Rattle.covered_log.specs.Lines.{Begins, Displaced, Entered, Forgets, LegStands, Missed, Stands};
 ghost use Rattle.covered_log.specs.LogState.{HasRoom, IsPage, is_known, losing_line, new_log, place_of, with_change};
 
 use crate::displaced::displaced_line;
@@ -7,12 +7,14 @@ use crate::kept::KeptLines;
 use crate::page::{Page, page_end, text_between};
 use crate::told::ToldChanges;
 use run_plan::{Command, Number, Reply};
-use run_table::RunView;
+use run_table::{RunView, Table};
 use std::alloc::{AllocError, Global};
 use std::marker::Model;
 use table_model::Run;
 use table_runs::runs::Runs;
-use table_views::{LegNews, attempt_line, entry_line, leg_change_line, run_change_line};
+use table_views::{
+    LegNews, attempt_line, entry_line, forgotten_line, leg_change_line, run_change_line,
+};
 
 /// The changes of a service: its covered entries, in the order of the history, and the runs and legs that they have changed. Each has the time
 /// of its commit, in milliseconds since 1970. The lines of the last changes are kept; all changes are counted. Places and cursors go on when the history of the store turns over.
@@ -105,15 +107,15 @@ impl CoveredLog {
         &mut self,
         alloc: Global,
         at: u64,
-        runs: &Runs,
+        table: &Table,
         view: &RunView<'_>,
     ) -> Result<(), AllocError>
         requires { HasRoom self.old }
-        ensures ok { OnOk result (self.new ≡ with_change self.old (Begins at runs.now view.now)) }
-        ensures err { OnErr result (self.new ≡ losing_line self.old (Begins at runs.now view.now)) }
+        ensures ok { OnOk result (self.new ≡ with_change self.old (Begins at table.now view.now)) }
+        ensures err { OnErr result (self.new ≡ losing_line self.old (Begins at table.now view.now)) }
     {
-        let line = attempt_line(alloc, self.entries, at, runs, view);
-        self.told.begin(at, runs, view);
+        let line = attempt_line(alloc, self.entries, at, table, view);
+        self.told.begin(at, table, view);
         self.kept.keep(line)?;
         Ok(())
     }
@@ -168,6 +170,19 @@ impl CoveredLog {
     {
         let line = displaced_line(alloc, self.entries, at, runs, r, run);
         self.told.displace(at, runs, r, run);
+        self.kept.keep(line)?;
+        Ok(())
+    }
+
+    /// Takes up through which id runs are forgotten after the entries so far. Without memory for its line all lines are forgotten, and the counts
+    /// go on.
+    pub(crate) fn forget(&mut self, alloc: Global, at: u64, through: u32) -> Result<(), AllocError>
+        requires { HasRoom self.old }
+        ensures ok { OnOk result (self.new ≡ with_change self.old (Forgets at through)) }
+        ensures err { OnErr result (self.new ≡ losing_line self.old (Forgets at through)) }
+    {
+        let line = forgotten_line(alloc, self.entries, at, through);
+        self.told.forget(at, through);
         self.kept.keep(line)?;
         Ok(())
     }

@@ -1,13 +1,12 @@
 //! What a log tells of a table after a commit.
 
 ghost use Rattle.std.specs.Prelude.{◌≡◌, ◌≤◌, ◌+◌, ◌++◌, ◌∷◌, [], ◌<◌, None, OnOk, IfOk, Some, drop, length, slice_get, take, unwrap_or};
-ghost use Rattle.definitions.specs.Limits.{max_runs};
-ghost use Rattle.covered_log.specs.Lines.{Begins, Displaced, Entered, LegStands, Stands, entries_of, with_all, with_more};
-ghost use Rattle.covered_log.specs.Standings.{beginning, displaced_news, moved_run, news_of, of_legs, run_news, table_news, told_after, told_of};
+ghost use Rattle.covered_log.specs.Lines.{Begins, Displaced, Entered, Forgets, LegStands, Stands, entries_of, with_all, with_more};
+ghost use Rattle.covered_log.specs.Standings.{beginning, displaced_news, forgotten_news, moved_run, news_of, of_legs, run_news, runs_after, runs_news, table_news, told_after, told_of};
 
 use crate::log::CoveredLog;
 use crate::moved::moved_legs;
-use crate::standings::{Standing, Standings};
+use crate::standings::{Standing, Standings, ToldRuns};
 use run_plan::{Command, Number, Reply};
 use run_table::{RunView, Table};
 use std::alloc::Global;
@@ -39,12 +38,12 @@ impl CoveredLog {
     }
 
     /// Tells how a run stands that begins an attempt.
-    fn tell_begun(&mut self, alloc: Global, at: u64, runs: &Runs, view: &RunView<'_>)
-        ensures told { self.new.changes ≡ with_more self.old.changes (Begins at runs.now view.now) }
+    fn tell_begun(&mut self, alloc: Global, at: u64, table: &Table, view: &RunView<'_>)
+        ensures told { self.new.changes ≡ with_more self.old.changes (Begins at table.now view.now) }
         ensures entries { entries_of self.new.changes ≡ entries_of self.old.changes }
     {
         if self.has_room() {
-            let _ = self.begin(alloc, at, runs, view);
+            let _ = self.begin(alloc, at, table, view);
         }
     }
 
@@ -78,6 +77,16 @@ impl CoveredLog {
         }
     }
 
+    /// Tells through which id runs are forgotten.
+    fn tell_through(&mut self, alloc: Global, at: u64, through: u32)
+        ensures told { self.new.changes ≡ with_more self.old.changes (Forgets at through) }
+        ensures entries { entries_of self.new.changes ≡ entries_of self.old.changes }
+    {
+        if self.has_room() {
+            let _ = self.forget(alloc, at, through);
+        }
+    }
+
     // ---- all that a table gives
 
     /// Tells how these legs stand.
@@ -90,54 +99,33 @@ impl CoveredLog {
         }
     }
 
-    /// Tells run `r`, which begins an attempt, with its row.
-    fn tell_beginning(&mut self, alloc: Global, look: &Look<'_>, r: usize, run: &Run)
-        requires { r < max_runs }
-        ensures told { self.new.changes ≡ with_more self.old.changes (beginning look.now.at look.now.table.now r run.now) }
+    /// Tells a run that begins an attempt, with its row.
+    fn tell_beginning(&mut self, alloc: Global, look: &Look<'_>, run: &Run)
+        ensures told { self.new.changes ≡ with_more self.old.changes (beginning look.now.at look.now.table.now run.now) }
         ensures entries { entries_of self.new.changes ≡ entries_of self.old.changes }
     {
-        let id = Number::new(r as u32 + 1);
-        match look.table.look(id) {
-            Some(view) => self.tell_begun(alloc, look.at, look.table.kept_runs(), &view),
-            None => self.tell_run(alloc, look.at, id, run),
-        }
+        self.tell_begun(alloc, look.at, look.table, &RunView::of(run));
     }
 
-    /// Tells run `r`, which does not stand as it was told.
-    fn tell_moved_run(
-        &mut self,
-        alloc: Global,
-        look: &Look<'_>,
-        told: &Standing,
-        r: usize,
-        run: &Run,
-    )
-        requires { r < max_runs }
-        ensures told { self.new.changes ≡ with_more self.old.changes (moved_run look.now.at look.now.table.now told.now r run.now) }
+    /// Tells a run that does not stand as it was told.
+    fn tell_moved_run(&mut self, alloc: Global, look: &Look<'_>, told: &Standing, run: &Run)
+        ensures told { self.new.changes ≡ with_more self.old.changes (moved_run look.now.at look.now.table.now told.now run.now) }
         ensures entries { entries_of self.new.changes ≡ entries_of self.old.changes }
     {
         if told.is_of_attempt(run) {
-            self.tell_run(alloc, look.at, Number::new(r as u32 + 1), run);
+            self.tell_run(alloc, look.at, run.id(), run);
         } else {
-            self.tell_beginning(alloc, look, r, run);
+            self.tell_beginning(alloc, look, run);
         }
     }
 
-    /// Tells run `r`, if it does not stand as it was told.
-    fn tell_unless_same(
-        &mut self,
-        alloc: Global,
-        look: &Look<'_>,
-        told: &Standing,
-        r: usize,
-        run: &Run,
-    )
-        requires { r < max_runs }
-        ensures told { self.new.changes ≡ with_all self.old.changes (run_news look.now.at look.now.table.now told.now r run.now) }
+    /// Tells a run, if it does not stand as it was told.
+    fn tell_unless_same(&mut self, alloc: Global, look: &Look<'_>, told: &Standing, run: &Run)
+        ensures told { self.new.changes ≡ with_all self.old.changes (run_news look.now.at look.now.table.now told.now run.now) }
         ensures entries { entries_of self.new.changes ≡ entries_of self.old.changes }
     {
         if !told.is_same(run) {
-            self.tell_moved_run(alloc, look, told, r, run);
+            self.tell_moved_run(alloc, look, told, run);
         }
     }
 
@@ -168,7 +156,6 @@ impl CoveredLog {
         r: usize,
         run: &Run,
     ) -> Result<Standing, Refusal>
-        requires { r < max_runs }
         ensures news { OnOk result
             (self.new.changes ≡ with_all self.old.changes (news_of look.now.at look.now.cancelled.now look.now.names.now look.now.table.now None r run.now)) }
         ensures told { IfOk result (λ now. now ≡ told_of look.now.names.now look.now.table.now None r run.now) }
@@ -177,7 +164,7 @@ impl CoveredLog {
         let untold = Standing::untold(alloc);
         let legs = moved_legs(alloc, look, &untold, r, run)?;
         let now = Standing::of(alloc, run)?;
-        self.tell_beginning(alloc, look, r, run);
+        self.tell_beginning(alloc, look, run);
         self.tell_if_displaced(alloc, look, &untold, r, run);
         self.tell_legs(alloc, look.at, legs.as_slice());
         Ok(now)
@@ -194,7 +181,6 @@ impl CoveredLog {
         r: usize,
         run: &Run,
     ) -> Result<Option<Standing>, Refusal>
-        requires { r < max_runs }
         ensures news { OnOk result (self.new.changes
             ≡ with_all self.old.changes (news_of look.now.at look.now.cancelled.now look.now.names.now look.now.table.now (Some told.now) r run.now)) }
         ensures told { IfOk result (λ now. unwrap_or now told.now ≡ told_of look.now.names.now look.now.table.now (Some told.now) r run.now) }
@@ -205,7 +191,7 @@ impl CoveredLog {
         }
         let legs = moved_legs(alloc, look, told, r, run)?;
         let now = told.renewed(alloc, run, legs.as_slice())?;
-        self.tell_unless_same(alloc, look, told, r, run);
+        self.tell_unless_same(alloc, look, told, run);
         self.tell_if_displaced(alloc, look, told, r, run);
         self.tell_legs(alloc, look.at, legs.as_slice());
         Ok(now)
@@ -216,11 +202,10 @@ impl CoveredLog {
         &mut self,
         alloc: Global,
         look: &Look<'_>,
-        standings: &mut Standings,
+        standings: &mut ToldRuns,
         r: usize,
         run: &Run,
     ) -> Result<(), Refusal>
-        requires run { r < max_runs }
         requires known { r ≤ length standings.old }
         ensures news { OnOk result (self.new.changes
             ≡ with_all self.old.changes (news_of look.now.at look.now.cancelled.now look.now.names.now look.now.table.now (slice_get standings.old r) r run.now)) }
@@ -244,14 +229,45 @@ impl CoveredLog {
         Ok(())
     }
 
+    /// Tells which runs a table has forgotten, if these are more than were told.
+    fn tell_forgotten(&mut self, alloc: Global, look: &Look<'_>, standings: &Standings)
+        ensures told { self.new.changes ≡ with_all self.old.changes (forgotten_news look.now.at look.now.table.now standings.now) }
+        ensures entries { entries_of self.new.changes ≡ entries_of self.old.changes }
+    {
+        let through = look.table.forgotten().through();
+        if standings.through() < through {
+            self.tell_through(alloc, look.at, through);
+        }
+    }
+
     /// Tells what the runs of a table have become since they were last told, in the order of their ids: each that begins an attempt, with its
     /// row, or does not stand as it was told, and then each of its legs that does not.
-    /// Promise (Views of a service): What is told of a table is, in the order of ids, each run that begins an attempt or is not as it was told,
-    ///   and after it each of its legs whose state or lease is not as it was told
+    fn look_at_all(
+        &mut self,
+        alloc: Global,
+        look: &Look<'_>,
+        standings: &mut ToldRuns,
+    ) -> Result<(), Refusal>
+        ensures news { OnOk result
+            (self.new.changes ≡ with_all self.old.changes (runs_news look.now.at look.now.cancelled.now look.now.names.now look.now.table.now standings.old)) }
+        ensures told { OnOk result (standings.new ≡ runs_after look.now.names.now look.now.table.now standings.old) }
+        ensures entries { entries_of self.new.changes ≡ entries_of self.old.changes }
+    {
+        let runs = look.table.kept_runs().as_slice();
+        for r in 0..runs.len() {
+            self.look_at(alloc, look, standings, r, &runs[r])?;
+        }
+        Ok(())
+    }
+
+    /// Tells which runs a table has forgotten, if these are more than were told, and what its runs have become since they were last told.
+    /// Promise (Views of a service): Of a table it is told which runs it has forgotten, if more than were told; then, by ids, each run that begins
+    ///   an attempt or is not as it was told, with each of its legs that is not
     /// By: `covered_log::CoveredLog::look`, `news` (`table_news`, `news_of`, `moved_legs`), `told` (`told_after`), `left`
     /// Promise (Views of a service): A run that was stopped since it was told, by no command, is told once more, with the run or leg that is pending
     ///   in its group, or else in progress
     /// By: `covered_log::CoveredLog::look`, `news` (`displaced_news`, `is_displaced`, `is_stopped`); `covered_log::displaced::displaced_line` (`next_after`)
+    #[tactic(auto, using(crate::proofs::Telling::all_of_both))]
     pub fn look(
         &mut self,
         alloc: Global,
@@ -264,10 +280,8 @@ impl CoveredLog {
         ensures left { OnOk result (table_news look.now.at look.now.cancelled.now look.now.names.now look.now.table.now standings.new ≡ []) }
         ensures entries { entries_of self.new.changes ≡ entries_of self.old.changes }
     {
-        let runs = look.table.kept_runs().as_slice();
-        for r in 0..runs.len() {
-            self.look_at(alloc, look, standings, r, &runs[r])?;
-        }
-        Ok(())
+        self.tell_forgotten(alloc, look, standings);
+        standings.forget(look.table);
+        self.look_at_all(alloc, look, &mut standings.runs)
     }
 }

@@ -1,10 +1,10 @@
 //! How runs stood when they were last told.
 
-ghost use Rattle.std.specs.Prelude.{◌≡◌, ◌==◌, ◌&&◌, ◌||◌, ◌++◌, ◌∷◌, [], ◌<◌, IfOk, OnOk, false, if◌then◌else◌, length, map, nat_eq, option_copied, option_map, slice_get, slice_set, unwrap_or};
+ghost use Rattle.std.specs.Prelude.{◌≡◌, ◌==◌, ◌&&◌, ◌||◌, ◌++◌, ◌∷◌, [], ◌<◌, IfOk, OnOk, drop, false, if◌then◌else◌, length, map, nat_eq, option_copied, option_map, slice_get, slice_set, unwrap_or};
 ghost use Rattle.std.specs.List.{list_all, list_any};
 ghost use Rattle.std.specs.Option.{option_map_or};
 ghost use Rattle.table_model.specs.inner.Cells.{states};
-ghost use Rattle.covered_log.specs.Standings.{has_no_leg, is_displaced, is_over, is_same, is_same_leg, is_same_lease, is_stopped, knows_stop, legs_to_keep, standing_of, told_leg, untold};
+ghost use Rattle.covered_log.specs.Standings.{has_no_leg, is_displaced, is_over, is_same, is_same_leg, is_same_lease, is_stopped, knows_stop, left_of, legs_to_keep, standing_of, standings_of, told_leg, untold};
 
 use run_plan::Number;
 use run_table::{Table, conclusion_word, leg_word, status_word};
@@ -225,13 +225,13 @@ impl Standing {
     }
 }
 
-/// How the runs of a table stood when they were last told.
+/// How runs stood when they were last told.
 #[derive(Drop)]
-pub struct Standings {
+pub(crate) struct ToldRuns {
     runs: Vec<Standing>,
 }
 
-impl Model for Standings {
+impl Model for ToldRuns {
     ghost use Rattle.std.specs.Prelude.{List};
     ghost use Rattle.covered_log.specs.Standings.{Standing as StandingState};
 
@@ -240,17 +240,17 @@ impl Model for Standings {
     ghost view = { λ s. s.runs.items };
 }
 
-impl Standings {
-    /// How the runs of a table stand, for those that list them now.
-    pub fn of(alloc: Global, table: &Table) -> Result<Standings, AllocError>
-        ensures { IfOk result (λ standings. standings ≡ map standing_of table.now.runs) }
+impl ToldRuns {
+    /// How the runs of a table stand.
+    fn of(alloc: Global, table: &Table) -> Result<ToldRuns, AllocError>
+        ensures { IfOk result (λ told. told ≡ map standing_of table.now.runs) }
     {
         let runs = table.runs();
         let mut standings = Vec::with_capacity(alloc, runs.len())?;
         for run in runs {
             standings.push(Standing::of(alloc, run)?)?;
         }
-        Ok(Standings { runs: standings })
+        Ok(ToldRuns { runs: standings })
     }
 
     /// How a run stood, if it was told.
@@ -278,11 +278,66 @@ impl Standings {
         self.runs[r] = now;
     }
 
+    /// Leaves out so many of the first runs.
+    fn forget(&mut self, count: usize)
+        ensures { self.new ≡ drop count self.old }
+    {
+        if count < self.runs.len() {
+            self.runs.drain(..count);
+        } else {
+            self.runs.clear();
+        }
+    }
+
     /// Adds how the next run stands.
     pub(crate) fn push(&mut self, now: Standing) -> Result<(), AllocError>
         ensures { OnOk result (self.new ≡ self.old ++ now ∷ []) }
     {
         self.runs.push(now)?;
         Ok(())
+    }
+}
+
+/// How the runs of a table stood when they were last told, and which were forgotten then.
+#[derive(Drop)]
+pub struct Standings {
+    through: u32,
+    pub(crate) runs: ToldRuns,
+}
+
+impl Model for Standings {
+    ghost use Rattle.covered_log.specs.Standings.{Standings as StandingsState};
+
+    ghost Value = { StandingsState };
+
+    ghost view = { λ s. record { through = s.through; runs = s.runs } };
+}
+
+impl Standings {
+    /// How those of a table stand, for those that list them now.
+    pub fn of(alloc: Global, table: &Table) -> Result<Standings, AllocError>
+        ensures { IfOk result (λ standings. standings ≡ standings_of table.now) }
+    {
+        Ok(Standings {
+            through: table.forgotten().through(),
+            runs: ToldRuns::of(alloc, table)?,
+        })
+    }
+
+    /// Through which id runs were forgotten.
+    pub(crate) fn through(&self) -> u32
+        ensures { result ≡ self.now.through }
+    {
+        self.through
+    }
+
+    /// Leaves out the runs that a table has forgotten since.
+    pub(crate) fn forget(&mut self, table: &Table)
+        ensures { self.new ≡ record { through = table.now.forgotten.through; runs = left_of table.now self.old } }
+    {
+        let through = table.forgotten().through();
+        let count = through.saturating_sub(self.through) as usize;
+        self.runs.forget(count);
+        self.through = through;
     }
 }

@@ -1,9 +1,9 @@
 ghost use Rattle.std.specs.Prelude.{◌≡◌, ◌++◌, ◌∷◌, []};
-ghost use Rattle.covered_log.specs.Lines.{Begins, Displaced, Entered, LegStands, Missed, Stands};
+ghost use Rattle.covered_log.specs.Lines.{Begins, Displaced, Entered, Forgets, LegStands, Missed, Stands};
 
 use http_server::Log;
 use run_plan::{Command, Number, Reply};
-use run_table::RunView;
+use run_table::{RunView, Table};
 use std::marker::Model;
 use std::snapshot::Snapshot;
 use table_model::Run;
@@ -15,11 +15,12 @@ use table_views::LegNews;
 pub(crate) enum Told {
     Entry(u64, Snapshot<Command>, Snapshot<Reply>),
     /// A run that begins an attempt: its id, and its number among those of its workflow.
-    Attempt(u64, Snapshot<Runs>, Number, Number, Snapshot<Run>),
+    Attempt(u64, Snapshot<Table>, Number, Number, Snapshot<Run>),
     Run(u64, Number, Snapshot<Run>),
     Leg(u64, Snapshot<LegNews>),
-    /// A run, at its index among the runs of a table, that made way for a newcomer of its group.
+    /// The run at an index of these that made way for a newcomer of its group.
     Displaced(u64, Snapshot<Runs>, usize, Snapshot<Run>),
+    Forgotten(u64, u32),
     Missed,
 }
 
@@ -55,11 +56,11 @@ impl ToldChanges {
     }
 
     /// Appends how a run stands that begins an attempt.
-    pub(crate) fn begin(&mut self, at: u64, runs: &Runs, view: &RunView<'_>)
-        ensures { self.new ≡ self.old ++ Begins at runs.now view.now ∷ [] }
+    pub(crate) fn begin(&mut self, at: u64, table: &Table, view: &RunView<'_>)
+        ensures { self.new ≡ self.old ++ Begins at table.now view.now ∷ [] }
     {
         let run = Snapshot::of(view.run());
-        let begun = Told::Attempt(at, Snapshot::of(runs), view.id(), view.number(), run);
+        let begun = Told::Attempt(at, Snapshot::of(table), view.id(), view.number(), run);
         self.told = self.told.and(&begun, &true);
     }
 
@@ -85,6 +86,13 @@ impl ToldChanges {
     {
         let displaced = Told::Displaced(at, Snapshot::of(runs), r, Snapshot::of(run));
         self.told = self.told.and(&displaced, &true);
+    }
+
+    /// Appends through which id runs are forgotten.
+    pub(crate) fn forget(&mut self, at: u64, through: u32)
+        ensures { self.new ≡ self.old ++ Forgets at through ∷ [] }
+    {
+        self.told = self.told.and(&Told::Forgotten(at, through), &true);
     }
 
     /// Appends a change that is missed.

@@ -1,11 +1,10 @@
 -- What a call that shows a table has written, run by run.
-use Rattle.std.proofs.Common.{◌≡◌, ◌⊎◌, ◌∙◌, inl, inr, ℕ, suc, ◌+◌, ◌-◌, ◌<◌, ◌≤◌, List, [], ◌++◌, length, Option, Some, None}
-use Rattle.std.proofs.Common.{Result, Ok, Err, IfErr, refl, sym, ap, subst, append-nil, arith}
+use Rattle.std.proofs.Common.{◌≡◌, ◌⊎◌, ◌∙◌, inl, inr, ℕ, ◌+◌, ◌<◌, ◌≤◌, List, [], ◌∷◌, ◌++◌, drop, get_or, length, Option, Some, None}
+use Rattle.std.proofs.Common.{Result, Ok, Err, IfErr, refl, sym, ap, subst, append-nil}
 use Rattle.std.specs.Io.KnownBytes.{Appends, Keeps}
-use Rattle.std.specs.Option.{option_map_or}
 use Rattle.std.specs.Prelude.{IsErrAnd, ok_or, option_map}
 use Rattle.std.proofs.KnownBytes.{Appends-nil}
-use Rattle.std.proofs.lemmas.Option.{slice_get_cases}
+use Rattle.std.proofs.lemmas.List.{drop_all, drop_more}
 use Rattle.wf_value.specs.Gives.{no_memory}
 use Rattle.wf_value.specs.declared.code.Code.TheVariants.{NoRun}
 use Rattle.wf_value.specs.declared.refusal.Refusal.{Refusal}
@@ -13,7 +12,7 @@ use Rattle.wf_value.specs.declared.refusal.Refusal.TheVariants.{Numbered}
 use Rattle.table_model.specs.Step.{seen}
 use Rattle.table_model.specs.TableState.{TableState}
 use Rattle.table_model.specs.Runs.{RunState}
-use Rattle.table_model.specs.ViewText.{Seen}
+use Rattle.table_model.specs.ViewText.{Seen, seen_of}
 use Rattle.act_store.specs.Entries.{table_after}
 use Rattle.act_store.specs.Images.{HasNoArea, RecoversTo}
 use Rattle.act_store.specs.StoreState.{StoreState, table_of}
@@ -22,54 +21,30 @@ use Rattle.table_views.specs.RunLines.{run_line}
 use Rattle.table_views.specs.declared.form.Form.{Form}
 use Rattle.act_disk.specs.Failed.{device_failed, stream_failed}
 use Rattle.act_store.specs.FaultCauses.{TellsFault}
-use Rattle.program_commands.specs.Show.{Shows, WritesWhat, lines_from, run_lines, shown}
+use Rattle.program_commands.specs.Show.{Shows, WritesWhat, lines_of, shown}
 use Rattle.program_commands.specs.declared.shown.Shown.{Shown}
 use Rattle.program_commands.specs.declared.shown.Shown.TheVariants as what
 use Rattle.program_commands.proofs.Writing.{flushed, written_faults}
 
 -- the lines of the runs from an index on
-abbrev pub lines_after : Form → TableState → ℕ → List ℕ
-lines_after form t index = lines_from form t (index + 1) (length t.runs - index)
+abbrev pub lines_after : Form → List RunState → ℕ → List ℕ
+lines_after form runs index = lines_of form (drop index runs)
 
--- the view of a run
-abbrev shown_of : RunState → Seen
-shown_of run = record { id = run.id; number = run.number; run = run }
-
-all_after : (form : Form) (t : TableState) → lines_after form t 0 ≡ run_lines form t
-all_after form t = ap (λ n. lines_from form t 1 n) (let same : length t.runs - 0 ≡ length t.runs = omega arith in same)
-
-pub before_all : (form : Form) (t : TableState) → [] ++ lines_after form t 0 ≡ run_lines form t
-before_all form t = all_after form t
-
--- ---- a run that exists
-
-there : (t : TableState) (index : ℕ) (run : Seen) → seen t (index + 1) ≡ Some run → index < length t.runs
-there t index run is =
-    let same : index + 1 - 1 ≡ index = omega arith in
-    let cases = slice_get_cases t.runs (index + 1 - 1) in
-    elim cases.1 [
-      | inl found ↦ omega (arith, found.1)
-      | inr past ↦ absurd (let clash : None ≡ Some run = sym (ap (option_map shown_of) past.1) ∙ is in cc)
-    ]
-
--- its line comes before those of the later ones
-pub after_run : (form : Form) (t : TableState) (out : List ℕ) (index id : ℕ) (run : Seen) → Some run ≡ seen t id → id ≡ index + 1
-    → out ++ lines_after form t index ≡ run_lines form t
-    → out ++ (run_line form run ++ lines_after form t (index + 1)) ≡ run_lines form t
-after_run form t out index id run looked id_is h =
-    let is : seen t (index + 1) ≡ Some run = sym (looked ∙ ap (seen t) id_is) in
-    let below : index < length t.runs = there t index run is in
-    let left : length t.runs - index ≡ suc (length t.runs - (index + 1)) = omega arith in
-    ap (λ x. out ++ x) (sym (ap (λ n. lines_from form t (index + 1) n) left
-    ∙ ap (λ o. option_map_or (run_line form) o [] ++ lines_from form t (index + 1 + 1) (length t.runs - (index + 1))) is)) ∙ h
+-- the line of a run comes before those of the later ones
+pub after_run : (form : Form) (runs : List RunState) (out : List ℕ) (index : ℕ) (run : RunState) → index < length runs
+    → run ≡ get_or runs index run → out ++ lines_after form runs index ≡ lines_of form runs
+    → out ++ (run_line form (seen_of run) ++ lines_after form runs (index + 1)) ≡ lines_of form runs
+after_run form runs out index run within is h =
+    let next : drop index runs ≡ run ∷ drop (index + 1) runs =
+    drop_more runs index run within ∙ ap (λ (x : RunState). x ∷ drop (index + 1) runs) (sym is) in
+    ap (λ (rs : List RunState). out ++ lines_of form rs) (sym next) ∙ h
 
 -- ---- the end
 
-pub past_last : (form : Form) (t : TableState) (out all : List ℕ) (index : ℕ) → length t.runs ≤ index
-    → out ++ lines_after form t index ≡ all → out ≡ all
-past_last form t out all index past h =
-    let none : length t.runs - index ≡ 0 = omega arith in
-    sym (append-nil out) ∙ ap (λ n. out ++ lines_from form t (index + 1) n) (sym none) ∙ h
+pub past_last : (form : Form) (runs : List RunState) (out : List ℕ) (index : ℕ) → length runs ≤ index
+    → out ++ lines_after form runs index ≡ lines_of form runs → out ≡ lines_of form runs
+past_last form runs out index past h =
+    sym (append-nil out) ∙ ap (λ (rs : List RunState). out ++ lines_of form rs) (sym (drop_all index runs past)) ∙ h
 
 -- the table of a store that was just opened is its base
 pub opened_table : {D : Type 0} (s : StoreState D) → s.history ≡ [] → s.base ≡ table_of s

@@ -6,6 +6,7 @@ use Rattle.std.specs.Str.{bytes_eq}
 use Rattle.wf_value.specs.declared.refusal.Refusal.{Refusal}
 use Rattle.run_plan.specs.declared.command.Command.{Command}
 use Rattle.command_lines.specs.Commands.{not_a_line, admit_of, claim_of, done_of, beat_of, cancel_of, lost_of, look_of, fetch_of, rerun_of}
+use Rattle.command_lines.specs.Commands.{forget_of, discharge_of}
 use Rattle.command_lines.specs.Fields.{at_space}
 
 abbrev pub command_by : List ℕ → List ℕ → Result Command Refusal
@@ -18,7 +19,9 @@ command_by word fields =
     else (if bytes_eq word (codes "lost") then ok_or (lost_of fields) not_a_line
     else (if bytes_eq word (codes "look") then ok_or (look_of fields) not_a_line
     else (if bytes_eq word (codes "fetch") then ok_or (fetch_of fields) not_a_line
-    else (if bytes_eq word (codes "rerun") then ok_or (rerun_of fields) not_a_line else Err not_a_line))))))))
+    else (if bytes_eq word (codes "rerun") then ok_or (rerun_of fields) not_a_line
+    else (if bytes_eq word (codes "forget") then ok_or (forget_of fields) not_a_line
+    else (if bytes_eq word (codes "discharge") then ok_or (discharge_of fields) not_a_line else Err not_a_line))))))))))
 
 abbrev pub command_of : List ℕ → Result Command Refusal
 command_of line = option_map_or (λ p. command_by p.0 p.1) (at_space line) (Err not_a_line)

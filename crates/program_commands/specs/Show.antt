@@ -1,8 +1,6 @@
 -- The output of `acts show`, `acts runners` and `acts queue`, for the table that a disk recovers to. The format is
 -- defined by this project.
-use Rattle.std.specs.Prelude.{◌≡◌, ◌⊎◌, ℕ, List, [], ◌++◌, length, flat_map, ok_or, option_map, Result, Ok, Err}
-use Rattle.std.specs.List.{range_with_len}
-use Rattle.std.specs.Option.{option_map_or}
+use Rattle.std.specs.Prelude.{◌≡◌, ◌⊎◌, ℕ, List, [], ◌++◌, flat_map, ok_or, option_map, Result, Ok, Err}
 use Rattle.std.specs.Prelude.{IsErrAnd, Option}
 use Rattle.std.specs.Io.KnownBytes.{Appends}
 use Rattle.wf_value.specs.Gives.{no_memory}
@@ -10,8 +8,10 @@ use Rattle.wf_value.specs.declared.code.Code.TheVariants.{NoRun}
 use Rattle.wf_value.specs.declared.refusal.Refusal.{Refusal}
 use Rattle.wf_value.specs.declared.refusal.Refusal.TheVariants.{Numbered}
 use Rattle.act_disk.specs.Failed.{stream_failed}
+use Rattle.table_model.specs.Runs.{RunState}
 use Rattle.table_model.specs.Step.{seen}
 use Rattle.table_model.specs.TableState.{TableState}
+use Rattle.table_model.specs.ViewText.{seen_of}
 use Rattle.table_views.specs.QueueLines.{queue_lines}
 use Rattle.table_views.specs.RunLines.{run_line}
 use Rattle.table_views.specs.RunnerLines.{runner_lines}
@@ -24,16 +24,13 @@ use Rattle.program_commands.specs.declared.shown.Shown.TheVariants as what
 
 -- ---- the runs
 
-abbrev pub line_of : Form → TableState → ℕ → List ℕ
-line_of form t id = option_map_or (run_line form) (seen t id) []
+-- the lines of these runs
+abbrev pub lines_of : Form → List RunState → List ℕ
+lines_of form runs = flat_map (λ run. run_line form (seen_of run)) runs
 
--- the lines of `count` runs from an id on
-abbrev pub lines_from : Form → TableState → ℕ → ℕ → List ℕ
-lines_from form t id count = flat_map (line_of form t) (range_with_len id count)
-
--- the lines of all runs, whose ids count from 1
+-- the lines of all runs that are not forgotten
 abbrev pub run_lines : Form → TableState → List ℕ
-run_lines form t = lines_from form t 1 (length t.runs)
+run_lines form t = lines_of form t.runs
 
 -- ---- what is shown
 

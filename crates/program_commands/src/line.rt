@@ -2,8 +2,8 @@ ghost use Rattle.wf_value.specs.Gives.{Gives};
 ghost use Rattle.program_commands.specs.Line.{command_by, command_of};
 
 use command_lines::{
-    admit_of, at_space, beat_of, cancel_of, claim_of, done_of, fetch_of, look_of, lost_of,
-    rerun_of, spelled,
+    admit_of, at_space, beat_of, cancel_of, claim_of, discharge_of, done_of, fetch_of, forget_of,
+    look_of, lost_of, rerun_of, spelled,
 };
 use run_plan::{Command, Prepared};
 use std::alloc::Global;
@@ -35,15 +35,19 @@ fn command_by(
         fetch_of(fields)
     } else if word == b"rerun".as_slice() {
         rerun_of(fields)
+    } else if word == b"forget".as_slice() {
+        forget_of(fields)
+    } else if word == b"discharge".as_slice() {
+        discharge_of(alloc, fields)
     } else {
         spelled(None)
     }
 }
 
 /// The command of a line: `admit DELIVERY EVENT BODY`, `claim RUNNER NUMBER LABELS`, `done RUNNER NUMBER LEASE RESULT`,
-/// `beat RUNNER LEASE`, `cancel RUN`, `lost RUNNER`, `look RUN`, `fetch RUN` or `rerun RUN ATTEMPT`, separated by
-/// single spaces. BODY is everything after the third space. Any other line is refused with 75, and a body with a fault
-/// with the number of the first one: 10 to 26. Out of memory is 50.
+/// `beat RUNNER LEASE`, `cancel RUN`, `lost RUNNER`, `look RUN`, `fetch RUN`, `rerun RUN ATTEMPT`, `forget RUN` or
+/// `discharge RUNNER`, separated by single spaces. BODY is everything after the third space. Any other line is refused
+/// with 75, and a body with a fault with the number of the first one: 10 to 26. Out of memory is 50.
 /// Promise (The program): A line is the command of its word and fields, or is refused 75, or with its body's first fault. A refused line leaves
 ///   the store as it is; every other line is one step of it
 /// By: `program_commands::line::command_of`; `program_commands::answer::answer_to` (`IsAnswer`)

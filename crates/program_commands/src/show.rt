@@ -21,7 +21,6 @@ use run_plan::Number;
 use run_table::{RunView, Table};
 use std::alloc::Global;
 use std::io::Write;
-use table_model::MAX_RUNS;
 use table_views::{Form, queue_text, run_line, runners_text};
 use wf_value::{Code, Refusal};
 
@@ -46,11 +45,9 @@ fn write_views<D: Disk, W: Write>(
 ) -> Result<(), Refusal>
     ensures { Writes (W.contents writer.old) (W.contents writer.new) (run_lines form (table_of store.now)) result }
 {
-    for index in 0..MAX_RUNS {
-        let Some(view) = store.look(Number::new(index + 1)) else {
-            return Ok(());
-        };
-        write_view(alloc, form, &view, writer)?;
+    let runs = store.table().runs();
+    for index in 0..runs.len() {
+        write_view(alloc, form, &RunView::of(&runs[index]), writer)?;
     }
     Ok(())
 }

@@ -152,10 +152,16 @@ fn serve_on<
             serve_rounds(system, alloc, store, hooks, runners, sessions, rounds, out)?;
             Ok(())
         }
-        Span::Forever { commands, idle, .. } => {
+        Span::Forever {
+            commands,
+            idle,
+            keep_runs,
+            ..
+        } => {
             let limits = Limits {
                 commands,
                 idle: Duration::from_secs(idle),
+                keep_runs,
             };
             serve_forever(system, alloc, store, ports, limits, out)
         }

@@ -8,11 +8,21 @@ use mio::unix::SourceFd;
 use mio::{Interest, Registry, Token};
 use std::alloc::{AllocError, Global};
 use std::net::{TcpListener, TcpStream};
+use std::os::fd::AsRawFd;
 use std::time::Instant;
 use std::{io, mem};
 
 /// The number of ports. The tokens of their listeners come first, then those of the slots.
 const PORTS: usize = 2;
+
+/// How many slots the hook port has. One more is the service's own, and then come those of the runner port.
+pub(crate) const HOOK_SLOTS: usize = MAX_CLIENTS + 1;
+
+/// The slot in which the service itself is a client of the hook port. The port gives it to no connection.
+pub(crate) const OWN_SLOT: usize = MAX_CLIENTS;
+
+/// How many slots there are.
+const SLOTS: usize = HOOK_SLOTS + MAX_CLIENTS;
 
 fn token_of(slot: usize) -> Token {
     Token(slot.wrapping_add(PORTS))
@@ -36,7 +46,7 @@ pub(crate) struct Clients<'a> {
 /// Places without clients.
 fn empty_slots(alloc: Global) -> Result<Vec<Option<Client>>, AllocError> {
     let mut slots: Vec<Option<Client>> = Vec::new(alloc);
-    for _place in 0..PORTS * MAX_CLIENTS {
+    for _place in 0..SLOTS {
         slots.push(None)?;
     }
     Ok(slots)
@@ -44,7 +54,7 @@ fn empty_slots(alloc: Global) -> Result<Vec<Option<Client>>, AllocError> {
 
 /// An empty list with room for all slots.
 fn list(alloc: Global) -> Result<Vec<usize>, AllocError> {
-    Vec::with_capacity(alloc, PORTS * MAX_CLIENTS)
+    Vec::with_capacity(alloc, SLOTS)
 }
 
 impl<'a> Clients<'a> {
@@ -57,7 +67,7 @@ impl<'a> Clients<'a> {
     ) -> Result<Clients<'a>, AllocError> {
         Ok(Clients {
             hooks: Port::new(alloc, hooks, 0)?,
-            runners: Port::new(alloc, runners, MAX_CLIENTS)?,
+            runners: Port::new(alloc, runners, HOOK_SLOTS)?,
             registry,
             slots: empty_slots(alloc)?,
             queue: list(alloc)?,
@@ -138,8 +148,8 @@ impl<'a> Clients<'a> {
     /// Puts a client into its slot, and registers its stream, so that its input is reported, and that it takes more of
     /// its answers.
     fn add(&mut self, stream: TcpStream, slot: usize, now: Instant) -> io::Result<ClientStream> {
+        let fd = stream.as_raw_fd();
         let stream = ClientStream::new(stream)?;
-        let fd = stream.fd();
         let interest = Interest::READABLE | Interest::WRITABLE;
         self.registry
             .register(&mut SourceFd(&fd), token_of(slot), interest)?;
@@ -151,7 +161,7 @@ impl<'a> Clients<'a> {
 
     /// Frees a slot.
     fn vacate(&mut self, slot: usize) {
-        if slot < MAX_CLIENTS {
+        if slot < HOOK_SLOTS {
             self.hooks.vacate(slot);
         } else {
             self.runners.vacate(slot);

@@ -4,7 +4,7 @@ ghost use Rattle.std.specs.Prelude.{◌≡◌, [], IfOk};
 ghost use Rattle.act_store.specs.Images.{RecoversTo};
 ghost use Rattle.client_loop.specs.Service.{history_of};
 
-use crate::clients::Clients;
+use crate::clients::{Clients, HOOK_SLOTS};
 use crate::farewell::part_with_all;
 use crate::limits::Limits;
 use crate::turns::Turns;
@@ -171,6 +171,17 @@ fn linger<D: Disk, R: Clock>(
     Ok(())
 }
 
+/// Makes all that was asked durable. Returns how long that took.
+fn make_durable<D: Disk, R: Clock>(rt: &R, turns: &mut Turns<'_, D>) -> Result<Duration, Refusal> {
+    turns.begin(rt);
+    let begin = turns.now;
+    turns.commit()?;
+    turns.begin(rt);
+    let took = turns.now.saturating_duration_since(begin);
+    turns.has_committed(rt, took);
+    Ok(took)
+}
+
 /// Makes all that was asked durable, and notes how long that took and how many clients came meanwhile.
 fn commit<D: Disk, R: Clock>(
     rt: &R,
@@ -180,16 +191,21 @@ fn commit<D: Disk, R: Clock>(
     if turns.service.is_covered() {
         return Ok(());
     }
-    turns.begin(rt);
-    let begin = turns.now;
-    turns.commit()?;
-    turns.begin(rt);
-    let took = turns.now.saturating_duration_since(begin);
-    turns.has_committed(rt, took);
+    let took = make_durable(rt, turns)?;
     let came = coming(watch, turns)?;
     turns
         .linger
         .has_committed(took, turns.clients.spoken(), came);
+    Ok(())
+}
+
+/// Forgets runs, if more are kept than are to be. That is durable before the next turn.
+fn forget<D: Disk, R: Clock>(rt: &R, turns: &mut Turns<'_, D>) -> Result<(), Refusal> {
+    turns.ask_to_forget();
+    if !turns.service.is_covered() {
+        make_durable(rt, turns)?;
+    }
+    turns.has_asked();
     Ok(())
 }
 
@@ -218,18 +234,21 @@ fn take_turn<D: Disk, R: Clock, O: Write>(
     turns.release_all();
     turns.show(rt)?;
     turns.checkpoint()?;
-    turns.turn_over(out)?;
+    if turns.turn_over(out)? {
+        forget(rt, turns)?;
+    }
     turns.sweep();
     Ok(())
 }
 
-/// Takes turns until the service cannot go on. Returns why.
+/// Takes turns until the service cannot go on. Returns why. Before the first one it forgets runs, if more are kept than are to be.
 fn take_turns<D: Disk, R: Wait + Clock, O: Write>(
     rt: &R,
     watch: &mut Watch,
     turns: &mut Turns<'_, D>,
     out: &mut O,
 ) -> Result<(), Refusal> {
+    forget(rt, turns)?;
     for _ in rt.forever() {
         take_turn(rt, watch, turns, out)?;
     }
@@ -251,7 +270,7 @@ fn first_turn<'a, D: Disk + Drop>(
     ensures disk { IfOk result (λ turns. turns.service.store.disk ≡ store.disk) }
 {
     let buffer = vec![in alloc; 0u8; PIECE]?;
-    let slots = Slots::new(alloc, MAX_CLIENTS, MAX_CLIENTS)?;
+    let slots = Slots::new(alloc, HOOK_SLOTS, MAX_CLIENTS)?;
     let service = Service::new(store, slots);
     Ok(Turns::new(alloc, now, limits, service, clients, views, buffer))
 }
@@ -276,12 +295,15 @@ fn serve<D: Opened, R: Wait + Clock, O: Write>(
 }
 
 /// Serves a store without entries on two ports, without end: clients of HTTP on one port, and clients of runner lines on
-/// the other. A store in the first layout is first upgraded to the second. Then it writes `ready`, before the first
+/// the other. A store in an earlier layout is first upgraded to the third. Then it writes `ready`, before the first
 /// client.
 ///
 /// Each turn hears every client that has sent something, for at most 16 requests, commits all that they asked, and
 /// answers them. After `limits.commands` commands, or 64 MiB that clients have sent or received, the history turns over:
 /// `settled COUNT` is written, and the next history begins at the current table. The clients' sessions continue in it.
+///
+/// With `limits.keep_runs` the service itself asks to forget the runs before the last so many, before the first turn and whenever the history
+/// has turned over, if there are more and the first one has completed. It does so as a client of the hook port, in a slot that no connection has.
 ///
 /// It ends with a refusal: 50 if memory runs out before the first client, 51 or 52 if the device has failed, and 61 if
 /// the output cannot be written or a port fails. A stream that fails ends one session, and so does running out of memory

@@ -6,6 +6,7 @@ mod client;
 mod clients;
 mod farewell;
 mod forever;
+mod keeping;
 mod limits;
 mod linger;
 mod stream;

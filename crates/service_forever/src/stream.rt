@@ -1,20 +1,50 @@
 //! The stream of a client.
 
-ghost use Rattle.std.specs.Prelude.{None};
+ghost use Rattle.std.specs.Prelude.{◌≤◌, IfSome, None, vec_len};
 
 use byte_streams::{read_some, write_prefix};
 use client_loop::Stream;
 use client_ports::{ClientReader, ClientWriter, Input};
 use std::io;
 use std::net::{Shutdown, TcpStream};
-use std::os::fd::{AsRawFd, RawFd};
 
-/// The stream of a client, and what its last read and its last write say of it. It is non-blocking.
+/// Where the bytes of a client come from and go to.
+#[derive(Drop)]
+enum Wire {
+    /// A connection, which is non-blocking.
+    Connection(TcpStream),
+    /// The service itself, which asks this and reads no answer.
+    Own(String),
+}
+
+/// The stream of a client, and what its last read and its last write say of it.
 #[derive(Drop)]
 pub(crate) struct ClientStream {
-    stream: TcpStream,
+    wire: Wire,
     input: Input,
     has_failed: bool,
+}
+
+/// Reads once from a connection. Returns how many bytes came, or `None` if nothing was read, and what that says of its input.
+fn read_connection(stream: &TcpStream, buffer: &mut Vec<u8>) -> (Option<usize>, Input)
+    ensures bound { IfSome result.0 (λ n. n ≤ vec_len buffer.new) }
+{
+    let mut reader = ClientReader::new(stream, false);
+    let read = read_some(&mut reader, buffer.as_mut_slice());
+    match read {
+        Ok(count) => (Some(count), reader.input),
+        Err(_) => (None, reader.input),
+    }
+}
+
+/// Reads what is asked, or as much of it as there is room for, and leaves none of it.
+fn read_own(asked: &mut String, buffer: &mut Vec<u8>) -> usize
+    ensures bound { result ≤ vec_len buffer.new }
+{
+    let count = asked.len().min(buffer.len());
+    buffer.as_mut_slice()[..count].copy_from_slice(&asked.as_bytes()[..count]);
+    asked.clear();
+    count
 }
 
 impl ClientStream {
@@ -23,14 +53,19 @@ impl ClientStream {
         stream.set_nodelay(true)?;
         stream.set_nonblocking(true)?;
         Ok(ClientStream {
-            stream,
+            wire: Wire::Connection(stream),
             input: Input::Drained,
             has_failed: false,
         })
     }
 
-    pub(crate) fn fd(&self) -> RawFd {
-        self.stream.as_raw_fd()
+    /// The stream of the service itself, which asks this.
+    pub(crate) fn own(asked: String) -> ClientStream {
+        ClientStream {
+            wire: Wire::Own(asked),
+            input: Input::Drained,
+            has_failed: false,
+        }
     }
 
     /// What the last read says of its input.
@@ -45,7 +80,10 @@ impl ClientStream {
 
     /// Shuts down writing. Returns whether it could.
     pub(crate) fn end(&self) -> bool {
-        self.stream.shutdown(Shutdown::Write).is_ok()
+        match &self.wire {
+            Wire::Connection(stream) => stream.shutdown(Shutdown::Write).is_ok(),
+            Wire::Own(_) => false,
+        }
     }
 }
 
@@ -55,19 +93,25 @@ impl Stream for ClientStream {
     ghost contents = { λ _. None };
 
     fn read(&mut self, buffer: &mut Vec<u8>) -> Option<usize> {
-        let mut reader = ClientReader::new(&self.stream, false);
-        let read = read_some(&mut reader, buffer.as_mut_slice());
-        self.input = reader.input;
-        match read {
-            Ok(count) => Some(count),
-            Err(_) => None,
+        match &mut self.wire {
+            Wire::Connection(stream) => {
+                let (read, input) = read_connection(stream, buffer);
+                self.input = input;
+                read
+            }
+            Wire::Own(asked) => Some(read_own(asked, buffer)),
         }
     }
 
     fn write(&mut self, bytes: &[u8]) -> usize {
-        let mut writer = ClientWriter::new(&self.stream);
-        let count = write_prefix(&mut writer, bytes);
-        self.has_failed = writer.has_failed;
-        count
+        match &self.wire {
+            Wire::Connection(stream) => {
+                let mut writer = ClientWriter::new(stream);
+                let count = write_prefix(&mut writer, bytes);
+                self.has_failed = writer.has_failed;
+                count
+            }
+            Wire::Own(_) => bytes.len(),
+        }
     }
 }

@@ -42,7 +42,7 @@ pub(crate) struct Turns<'a, D: Disk> {
     pub(crate) buffer: Vec<u8>,
     checkpoints: Checkpoints,
     pub(crate) linger: Linger,
-    limits: Limits,
+    pub(crate) limits: Limits,
     /// The bytes of the requests that were answered in this turn.
     pending: u64,
     /// The bytes that clients have sent and received in this history.

@@ -25,6 +25,11 @@ client_lines hooks runners views =
     ++ value_line (codes "acts_clients") (codes "{port=\"runner\"}") runners
     ++ value_line (codes "acts_clients") (codes "{port=\"view\"}") views
 
+abbrev pub standing_lines : ℕ → List ℕ
+standing_lines standing =
+    metric (codes "acts_first_run_seconds") (codes "gauge")
+    (codes "Seconds since the run after the forgotten ones became the first, or since the service began.") standing
+
 abbrev pub file_lines : ℕ → ℕ → ℕ → ℕ → List ℕ
 file_lines area room generation checkpoints =
     metric (codes "acts_area_bytes") (codes "gauge") (codes "The length of an area of the file.") area

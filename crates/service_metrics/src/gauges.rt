@@ -1,13 +1,13 @@
 //! How a service stands: its program, its clients and its file.
 
 ghost use Rattle.std.specs.Prelude.{◌≡◌, ◌++◌, OnOk, string_bytes};
-ghost use Rattle.service_metrics.specs.Gauges.{build_lines, client_lines, file_lines, program_lines, silence_lines, version_line};
+ghost use Rattle.service_metrics.specs.Gauges.{build_lines, client_lines, file_lines, program_lines, silence_lines, standing_lines, version_line};
 
 use std::alloc::{AllocError, Global};
 use table_views::{push_head, push_metric, push_value};
 
 /// How a service stands: the version of its program, the seconds since it began, how many clients each port has, for how many seconds the
-/// runner with a lease that is silent for longest was not heard, the length of an area and its room, its generation, and how many checkpoints
+/// runner with a lease that is silent for longest was not heard, and for how many the first run has been the first, the length of an area and its room, its generation, and how many checkpoints
 /// were finished.
 #[derive(Clone, Copy)]
 pub struct Gauges<'a> {
@@ -17,6 +17,7 @@ pub struct Gauges<'a> {
     pub runners: u64,
     pub views: u64,
     pub silence: u64,
+    pub standing: u64,
     pub area: u64,
     pub room: u64,
     pub generation: u64,
@@ -91,6 +92,24 @@ pub(crate) fn push_silence(alloc: Global, text: &mut String, silence: u64) -> Re
         "gauge",
         "Seconds since the runner with a lease that is silent for longest was heard.",
         silence,
+    )
+}
+
+/// Appends the lines of the time for which the first run that is not forgotten has been the first.
+pub(crate) fn push_standing(
+    alloc: Global,
+    text: &mut String,
+    standing: u64,
+) -> Result<(), AllocError>
+    ensures { OnOk result (string_bytes text.new ≡ string_bytes text.old ++ standing_lines standing) }
+{
+    push_metric(
+        alloc,
+        text,
+        "acts_first_run_seconds",
+        "gauge",
+        "Seconds since the run after the forgotten ones became the first, or since the service began.",
+        standing,
     )
 }
 

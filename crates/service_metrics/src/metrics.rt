@@ -4,7 +4,7 @@ ghost use Rattle.std.specs.Prelude.{◌≡◌, ◌++◌, IfOk, OnOk, string_byte
 ghost use Rattle.service_metrics.specs.Metrics.{metrics_text, service_lines};
 
 use crate::counters::Counters;
-use crate::gauges::{Gauges, push_clients, push_file, push_program, push_silence};
+use crate::gauges::{Gauges, push_clients, push_file, push_program, push_silence, push_standing};
 use run_table::Table;
 use std::alloc::{AllocError, Global};
 use table_views::push_table_metrics;
@@ -22,6 +22,7 @@ fn push_service(
     push_program(alloc, text, gauges.version, gauges.uptime)?;
     push_clients(alloc, text, gauges.hooks, gauges.runners, gauges.views)?;
     push_silence(alloc, text, gauges.silence)?;
+    push_standing(alloc, text, gauges.standing)?;
     counters.push(alloc, text)?;
     push_file(alloc, text, gauges)
 }

@@ -197,7 +197,7 @@ pub fn serve_on<D: Disk + Drop + Send, R: Threads + Wait + Clock + Sync, O: Writ
 /// `settled COUNT` is written for it, a new history begins at the table that they left, and the next round serves as
 /// many sessions on the same ports.
 ///
-/// A store in the first layout is first upgraded to the second. `ready` is written once. A failed stream ends no round
+/// A store in an earlier layout is first upgraded to the third. `ready` is written once. A failed stream ends no round
 /// early; after the last round the service is refused with 61. If there are several rounds, one in which no session
 /// could be started ends the service with 50. Any other refusal of a round ends the service. So does a store that
 /// cannot begin a new history: with 52 if the device has failed, and with 56 if memory ran out for the end of a

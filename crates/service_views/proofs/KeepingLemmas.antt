@@ -2,30 +2,26 @@
 use Rattle.std.proofs.Common.{◌≡◌, ◌∙◌, ◌≤◌, ◌+◌, ◌<◌, ℕ, List, [], ◌∷◌, ◌++◌, length, take, drop, map, ap, refl, sym, subst, arith, append_assoc, length-take, inl, inr}
 use Rattle.std.proofs.lemmas.Bool.{leb-false, leb-true}
 use Rattle.std.proofs.lemmas.List.{drop_all, map-append}
-use Rattle.std.proofs.lemmas.List.Folds.{list_any-append}
 use Rattle.std.proofs.lemmas.Slice.Eq.{bytes_eq-Decides}
 use Rattle.std.specs.HashMap.{get_by_text}
-use Rattle.std.specs.List.{list_any}
 use Rattle.std.specs.Str.{bytes_eq}
-use Rattle.std.specs.Prelude.{Bool, true, false, cond, nat_le, None, Option, Some, slice_get, ◌||◌}
+use Rattle.std.specs.Prelude.{Bool, true, false, cond, nat_le, None, Option, Some, slice_get}
 use Rattle.std.specs.declared.time.Instant.{Instant}
 use Rattle.run_plan.specs.declared.reply.Reply.{Reply}
 use Rattle.act_store.specs.declared.entry.Entry.{Entry}
 use Rattle.service_metrics.specs.Counters.{CountersState, counters_of}
 use Rattle.service_views.proofs.FollowingLemmas.{entries_next}
-use Rattle.service_views.specs.Keeping.{Counts, HeardAt, Notes, comes_from, with_entries}
+use Rattle.service_views.specs.Keeping.{Counts, HeardAfter, HeardAt, Notes, with_entries}
 use Rattle.service_views.specs.declared.kept.Kept.{Kept}
 
 -- ---- who was heard
 
--- by some entries, and then by others
-heard_both : (a b : Bool) (now : Instant) (old mid new : Option Instant) → HeardAt a now old mid → HeardAt b now mid new → HeardAt (a || b) now old new
-heard_both true true now old mid new first (inl second) = inl second
-heard_both true true now old mid new (inl first) (inr (none, still)) = absurd (cc (first, none))
-heard_both true true now old mid new (inr (none, _)) (inr (_, still)) = inr (none, still)
-heard_both true false now old mid new first same = subst (λ o. HeardAt true now old o) (sym same) first
-heard_both false true now old mid new same second = subst (λ o. HeardAt true now o new) same second
-heard_both false false now old mid new same still = still ∙ same
+-- after some entries, and then others
+heard_both : (now : Instant) (name : List ℕ) (xs ys : List Entry) (old mid new : Option Instant) → HeardAfter now name xs old mid
+    → HeardAfter now name ys mid new → HeardAfter now name (xs ++ ys) old new
+heard_both now name [] ys old mid new same second = subst (λ (o : Option Instant). HeardAfter now name ys o new) same second
+heard_both now name (x ∷ xs) ys old mid new first second =
+    (first.0, first.1, heard_both now name xs ys first.0 mid new first.2 second)
 
 -- a map in which the runner has this time, and all others have theirs
 pub heard_from_update : (b : Bool) (now : Instant) (old new : Option Instant) → new ≡ cond b (Some now) old → HeardAt b now old new
@@ -55,12 +51,10 @@ counts_both xs ys old mid new first second = λ done is.
 notes_both : (xs ys : List Entry) (now : Instant) (old mid new : Kept) → Notes xs now old mid → Notes ys now mid new → Notes (xs ++ ys) now old new
 notes_both xs ys now old mid new first second = record {
   counts = counts_both xs ys old.counters mid.counters new.counters first.counts second.counts;
-  hears = λ name.
-      subst (λ (b : Bool). HeardAt b now (get_by_text old.heard name) (get_by_text new.heard name))
-      (sym (list_any-append (comes_from name) xs ys))
-      (heard_both (list_any (comes_from name) xs) (list_any (comes_from name) ys) now _ (get_by_text mid.heard name) _ (first.hears name) (second.hears name));
+  hears = λ name. heard_both now name xs ys _ (get_by_text mid.heard name) _ (first.hears name) (second.hears name);
   changes = second.changes ∙ first.changes;
   began = second.began ∙ first.began;
+  first = second.first ∙ first.first;
 }
 
 -- the next entry of a history

@@ -8,7 +8,7 @@ use Rattle.act_store.specs.declared.entry.Entry.{Entry}
 use Rattle.table_model.specs.TableState.{TableState}
 use Rattle.covered_log.specs.Lines.{Change, Entered, entries_of, with_all}
 use Rattle.covered_log.specs.LogState.{LogState}
-use Rattle.covered_log.specs.Standings.{Standing, table_news, told_after}
+use Rattle.covered_log.specs.Standings.{Standings, table_news, told_after}
 use Rattle.service_views.specs.declared.changes.Changes.{Changes}
 
 -- an entry as the changes have it
@@ -35,7 +35,7 @@ cancelled_in entries = filter_map (λ e. cancelled_by e.command e.reply) entries
 -- After changes, what a table gives is told to those that knew how its runs stood; so they know how these stand now. Commands have cancelled
 -- these runs since.
 pub record TellsTable (at : ℕ) (cancelled : List ℕ) (t : TableState) (changes : List Change) (old new : Changes) : Type 0 where
-  pub known : List Standing
+  pub known : Standings
   pub were : old.standings ≡ Some known
   pub are : new.standings ≡ Some (told_after new.leases.names t known)
   pub told : new.log.changes ≡ with_all changes (table_news at cancelled new.leases.names t known)

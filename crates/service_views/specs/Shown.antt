@@ -5,7 +5,8 @@ use Rattle.std.specs.Option.{option_map_or}
 use Rattle.act_store.specs.Images.{RecoversTo}
 use Rattle.covered_log.specs.LogState.{LogState, is_known}
 use Rattle.table_model.specs.TableState.{RunnerState, TableState}
-use Rattle.table_model.specs.ViewText.{Seen as RunSeen, seen_of}
+use Rattle.table_model.specs.Step.{seen}
+use Rattle.table_model.specs.ViewText.{Seen as RunSeen}
 use Rattle.service_metrics.specs.Metrics.{metrics_text}
 use Rattle.service_metrics.specs.declared.gauges.Gauges.{Gauges}
 use Rattle.store_copies.specs.Copies.{copy_bytes, file_of, fits}
@@ -78,8 +79,8 @@ rows limit = min limit 100
 -- a run, or that there is none with this id
 abbrev pub ShowsRun : NamesState → TableState → RunQuery → Made → Type 0
 ShowsRun names t q what =
-    ((seen : RunSeen) × (seen_of t.runs q.run ≡ Some seen) × IsJson (IsRunView (min q.from (length seen.run.jobs)) names t seen) what)
-    ⊎ ((seen_of t.runs q.run ≡ None) × IsFault fault.UnknownRun what)
+    ((shown : RunSeen) × (seen t q.run ≡ Some shown) × IsJson (IsRunView (min q.from (length shown.run.jobs)) names t shown) what)
+    ⊎ ((seen t q.run ≡ None) × IsFault fault.UnknownRun what)
 
 -- the body of a run, or that there is none with this id
 abbrev pub ShowsBody : Option (List ℕ) → Made → Type 0
@@ -151,6 +152,7 @@ gauges_of k s = record {
   runners = s.runners;
   views = s.viewers;
   silence = longest_silence k s.now s.table.now.runners;
+  standing = seconds_between k.first.since s.now;
   area = s.area;
   room = s.room;
   generation = s.generation;
@@ -169,7 +171,7 @@ later q is_over = record { after = q.after; wait = if is_over then 0 else 1 }
 abbrev pub Shows : Kept → Seen → Bool → View → Made → Type 0
 Shows k s head_only (view.Runs q) = IsJson (IsRunsPage q.filter q.before (rows q.limit) s.table.now)
 Shows k s head_only (view.Run q) = ShowsRun k.changes.leases.names s.table.now q
-Shows k s head_only (view.Body run) = ShowsBody (run_body s.table.now.runs run)
+Shows k s head_only (view.Body run) = ShowsBody (run_body s.table.now run)
 Shows k s head_only (view.Queue q) = IsJson (IsReadyPage q.from (rows q.limit) s.table.now)
 Shows k s head_only (view.Runners q) = ShowsRunners k s.now s.table.now q
 Shows k s head_only (view.Groups q) = IsJson (IsHolderPage q.filter q.from (rows q.limit) s.table.now)

@@ -4,7 +4,7 @@ ghost use Rattle.std.specs.Prelude.{◌≡◌, ◌++◌, ◌∷◌, [], IfOk, On
 ghost use Rattle.act_store.specs.StoreState.{table_of};
 ghost use Rattle.covered_log.specs.Lines.{entries_of, with_all, with_more};
 ghost use Rattle.covered_log.specs.LogState.{new_log};
-ghost use Rattle.covered_log.specs.Standings.{standing_of};
+ghost use Rattle.covered_log.specs.Standings.{standings_of};
 ghost use Rattle.service_views.specs.Following.{KeepsNoLine, TakesUp, Tells, TellsOrForgets, TellsTable, cancelled_by, cancelled_in, entered};
 ghost use Rattle.service_views.specs.GivenLeases.{NoteOf, NotesOf, none_since};
 
@@ -70,7 +70,7 @@ pub(crate) struct Changes {
 impl Changes {
     pub(crate) fn new(alloc: Global, process: u64, table: &Table) -> Result<Changes, AllocError>
         ensures log { IfOk result (λ changes. changes.log ≡ new_log process) }
-        ensures standings { IfOk result (λ changes. changes.standings ≡ Some (map standing_of table.now.runs)) }
+        ensures standings { IfOk result (λ changes. changes.standings ≡ Some (standings_of table.now)) }
         ensures leases { IfOk result (λ changes. changes.leases ≡ none_since table.now.last_lease) }
         ensures taken { IfOk result (λ changes. changes.taken ≡ 0) }
     {

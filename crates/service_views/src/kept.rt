@@ -1,18 +1,20 @@
 //! What is kept of a service for those that look at it: its changes, its counts, and when its runners were last heard.
 
-ghost use Rattle.std.specs.Prelude.{◌≡◌, ◌∷◌, [], ◌==◌, IfOk, List, not, option_map, ℕ};
+ghost use Rattle.std.specs.Prelude.{◌≡◌, ◌∷◌, [], ◌==◌, IfOk, List, false, not, option_map, ℕ};
+ghost use Rattle.std.specs.Option.{option_map_or};
 ghost use Rattle.std.specs.Duration.{as_nanos};
 ghost use Rattle.std.specs.HashMap.{get_by_text};
 ghost use Rattle.std.specs.Str.{bytes_eq};
 ghost use Rattle.service_metrics.specs.Counters.{Done, counters_of, with_commit};
 ghost use Rattle.service_views.specs.HeardTimes.{longest_silence, seconds_between, seconds_since, silence_of};
-ghost use Rattle.service_views.specs.Keeping.{Begins, GoesOn, HeardAt, Notes, covered_after, runner_of};
+ghost use Rattle.service_views.specs.Keeping.{Begins, GoesOn, HeardAt, Notes, covered_after, is_discharged, runner_of};
 ghost use Rattle.table_views.specs.MetricLines.{capped};
 
 use crate::changes::Changes;
+use crate::first_run::FirstRun;
 use act_disk::Disk;
 use act_store::{Entry, Store};
-use run_plan::{Command, RunnerName};
+use run_plan::{Command, Reply, RunnerName};
 use run_table::{Runner, Table};
 use service_metrics::Counters;
 use std::alloc::{AllocError, Global};
@@ -31,14 +33,25 @@ fn runner_of(command: &Command) -> Option<&RunnerName>
     }
 }
 
+/// The runner that an entry discharges, if it does.
+fn discharged_by(entry: &Entry) -> Option<&RunnerName>
+    ensures { (name : List ℕ) → option_map_or (λ runner. bytes_eq runner.now name) result false ≡ is_discharged name entry.now.command entry.now.reply }
+{
+    match (&entry.command, &entry.reply) {
+        (Command::Discharge(runner), Reply::Ok) => Some(runner),
+        _ => None,
+    }
+}
+
 /// What is kept.
 #[derive(Drop)]
 pub struct Kept {
     pub(crate) changes: Changes,
     pub(crate) counters: Counters,
     began: Instant,
-    /// When each runner was last heard.
+    /// When each runner was last heard that was not discharged since.
     heard: HashMap<String, Instant>,
+    pub(crate) first: FirstRun,
 }
 
 impl Kept {
@@ -53,6 +66,7 @@ impl Kept {
             counters: Counters::new(),
             began: now,
             heard: HashMap::new(alloc),
+            first: FirstRun::of(table, now),
         })
     }
 
@@ -72,12 +86,14 @@ impl Kept {
         }
     }
 
-    /// Counts an entry that was made durable, and notes that the runner was heard from which it comes.
+    /// Counts an entry that was made durable, and notes that the runner was heard from which it comes, or leaves out the one that it discharges.
     fn note(&mut self, alloc: Global, entry: &Entry, now: Instant)
         ensures { Notes (entry.now ∷ []) now self.old self.new }
     {
         self.counters.entered(&entry.reply);
-        if let Some(runner) = runner_of(&entry.command) {
+        if let Some(runner) = discharged_by(entry) {
+            let _heard = self.heard.remove(runner.as_str());
+        } else if let Some(runner) = runner_of(&entry.command) {
             let _ = self.hear(alloc, runner, now);
         }
     }
@@ -94,8 +110,8 @@ impl Kept {
     }
 
     /// Takes up what was made durable since the last time, `at` in milliseconds since 1970. Returns whether there was something.
-    /// Promise (Views of a service): Of what was made durable each entry is counted once, and the runner from which it comes was heard then.
-    ///   Without memory a runner whose name is new stays unknown
+    /// Promise (Views of a service): Of what was made durable each entry is counted once, and its runner was heard then, of which nothing is known
+    ///   once it is discharged. Without memory a new name stays unknown
     /// By: `service_views::Kept::take_up`, `goes_on` (`GoesOn`, `Counts`, `Hears`); `service_views::Kept::committed`, `counted`
     pub fn take_up<D: Disk>(
         &mut self,
@@ -112,6 +128,7 @@ impl Kept {
         }
         self.note_new(alloc, store, now);
         self.changes.take_up(alloc, store, at);
+        self.first.look(store.table(), now);
         true
     }
 

@@ -4,6 +4,7 @@
 mod behind;
 mod board;
 mod changes;
+mod first_run;
 mod given_leases;
 mod kept;
 mod shown;

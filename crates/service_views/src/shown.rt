@@ -133,7 +133,7 @@ fn run(alloc: Global, table: &Table, names: &LeaseNames, query: RunQuery) -> Res
 }
 
 fn body(alloc: Global, table: &Table, run: Number) -> Result<Made, Refusal>
-    ensures { IfOk result (ShowsBody (run_body table.now.runs run)) }
+    ensures { IfOk result (ShowsBody (run_body table.now run)) }
 {
     match run_body(alloc, table, run)? {
         Some(text) => json(text),
@@ -286,6 +286,7 @@ impl Kept {
             runners: seen.runners as u64,
             views: seen.viewers as u64,
             silence: self.longest_silence(seen.table.runners(), seen.now),
+            standing: self.first.seconds(seen.now),
             area: seen.area,
             room: seen.room,
             generation: seen.generation,

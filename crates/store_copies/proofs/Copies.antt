@@ -58,9 +58,9 @@ first_is_active area rest second zeros =
 
 -- ---- the table
 
-pub means_copy : (t : TableState) (text : List ℕ) → EncodesTable layouts.Second t text → MeansTable (copy_head text) [] t
+pub means_copy : (t : TableState) (text : List ℕ) → EncodesTable layouts.Third t text → MeansTable (copy_head text) [] t
 means_copy t text encodes = record {
-  layout = layouts.Second;
+  layout = layouts.Third;
   layout_is = refl;
   first = t;
   text = encodes;
@@ -79,7 +79,7 @@ reads_copy area zeros text fits short long = record {
   fits = record { generation = omega arith; text = short; each = _ };
 }
 
-pub copy_recovers : (area zeros : ℕ) (t : TableState) (text : List ℕ) → EncodesTable layouts.Second t text → IsAreaLength area
+pub copy_recovers : (area zeros : ℕ) (t : TableState) (text : List ℕ) → EncodesTable layouts.Third t text → IsAreaLength area
     → length (copy_front text) < area → length text < 2 ^ 64 → length (copy_front text) + zeros ≡ area + area
     → RecoversTo t (copy_front text ++ replicate zeros 0)
 copy_recovers area zeros t text encodes size fits short long =

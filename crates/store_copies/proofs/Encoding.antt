@@ -7,6 +7,6 @@ use Rattle.table_text.specs.Tables.{table, whole_table}
 use Rattle.act_store.specs.Layouts.{EncodesTable}
 use Rattle.act_store.specs.declared.layout.Layout.TheVariants as layouts
 
-pub table_encodes : (t : TableState) → IsSound t → table.Takes (stored_table t) → EncodesTable layouts.Second t (whole_table.encoding t)
+pub table_encodes : (t : TableState) → IsSound t → table.Takes (stored_table t) → EncodesTable layouts.Third t (whole_table.encoding t)
 unfolding EncodesTable
 table_encodes t sound takes = ((sound, takes), refl)

@@ -17,7 +17,7 @@ fits_head area text size room =
     let most = size.most in
     record { generation = omega arith; text = omega (arith, room, most); each = _ }
 
-pub laid_recovers : (area : ℕ) (images : List ℕ → Type 0) (t : TableState) (text : List ℕ) → EncodesTable layouts.Second t text → IsAreaLength area
+pub laid_recovers : (area : ℕ) (images : List ℕ → Type 0) (t : TableState) (text : List ℕ) → EncodesTable layouts.Third t text → IsAreaLength area
     → ((c : List ℕ) → images c → RecoversWhole area First Closed c (copy_head text) []) → (c : List ℕ) → images c → RecoversTo t c
 laid_recovers area images t text encodes size each c now =
     let laid = each c now in

@@ -15,7 +15,7 @@ copy_head text = record { version = current_version; generation = 1; text = text
 abbrev pub copy_front : List ℕ → List ℕ
 copy_front text = 0xA5 ∷ head_bytes (copy_head text)
 
--- the bytes of a copy of a table, after which zeros follow: an open gate, and the head with its text in the second layout
+-- the bytes of a copy of a table, after which zeros follow: an open gate, and the head with its text in the third layout
 abbrev pub copy_bytes : TableState → List ℕ
 copy_bytes t = copy_front (whole_table.encoding t)
 

@@ -17,8 +17,8 @@ use table_text::{table_length, write_table};
 use view_sessions::FileBytes;
 use wf_value::Refusal;
 
-/// The version of the second layout.
-const VERSION: u8 = 2;
+/// The version of the third layout.
+const VERSION: u8 = 4;
 
 /// The generation of the active area.
 const GENERATION: u64 = 1;
@@ -44,7 +44,7 @@ pub(crate) fn front(alloc: Global, gate: u8, table: &Table) -> Result<Vec<u8>, R
     requires sound { IsSound table.now }
     ensures err { ErrsOnlyByMemory result }
     ensures bytes { IfOk result (λ bytes. bytes.items ≡ gate ∷ head_bytes (copy_head (whole_table.encoding table.now))) }
-    ensures encodes { OnOk result (EncodesTable layouts.Second table.now (whole_table.encoding table.now)) }
+    ensures encodes { OnOk result (EncodesTable layouts.Third table.now (whole_table.encoding table.now)) }
 {
     let text = table_length(table);
     let mut bytes = vec![in alloc; gate; 1]?;
@@ -55,9 +55,9 @@ pub(crate) fn front(alloc: Global, gate: u8, table: &Table) -> Result<Vec<u8>, R
     Ok(bytes)
 }
 
-/// A store file of two areas of this length, of which the first has the table, in the second layout, and no record. `None` if the text of
+/// A store file of two areas of this length, of which the first has the table, in the third layout, and no record. `None` if the text of
 /// the table does not fit, or no store has areas of this length.
-/// Promise (Views of a service): A copy of a store is two areas long, has the table in the second layout and no record, and recovers to the
+/// Promise (Views of a service): A copy of a store is two areas long, has the table in the third layout and no record, and recovers to the
 ///   table that it was made of
 /// By: `store_copies::copy_of`, `bytes`, `recovers`, `size` (`copy_bytes`, `file_of`)
 /// Promise (Views of a service): There is a copy exactly if the text of the table fits an area, and a store has areas of this length

@@ -35,7 +35,7 @@ fn closed_area(alloc: Global, table: &Table) -> Result<Vec<u8>, Refusal>
     requires sound { IsSound table.now }
     ensures err { ErrsOnlyByMemory result }
     ensures bytes { IfOk result (λ bytes. bytes.items ≡ 0 ∷ after_gate (copy_head (whole_table.encoding table.now)) []) }
-    ensures encodes { OnOk result (EncodesTable layouts.Second table.now (whole_table.encoding table.now)) }
+    ensures encodes { OnOk result (EncodesTable layouts.Third table.now (whole_table.encoding table.now)) }
 {
     let mut bytes = front(alloc, CLOSED, table)?;
     bytes.push(CLOSED)?;

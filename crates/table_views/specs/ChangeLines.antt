@@ -13,6 +13,7 @@ use Rattle.run_plan.specs.declared.command.Done.{Done}
 use Rattle.run_plan.specs.declared.reply.Reply.{Reply}
 use Rattle.run_plan.specs.declared.reply.Reply.TheVariants as reply
 use Rattle.table_model.specs.Runs.{RunState}
+use Rattle.table_model.specs.TableState.{TableState}
 use Rattle.table_model.specs.ViewText.{Seen, leg_text}
 use Rattle.table_views.specs.Members.{member, number_or_null, text_or_null}
 use Rattle.table_views.specs.RunRows.{run_members, state_members}
@@ -44,8 +45,9 @@ abbrev pub beat_json : Beat → List ℕ
 beat_json beat =
     named (codes "beat") ++ member (codes "runner") (quoted beat.runner) ++ member (codes "lease") (decimal beat.lease) ++ codes "}"
 
-abbrev pub lost_json : List ℕ → List ℕ
-lost_json runner = named (codes "lost") ++ member (codes "runner") (quoted runner) ++ codes "}"
+-- a command that has a runner alone
+abbrev pub json_of_runner : List ℕ → List ℕ → List ℕ
+json_of_runner name runner = named name ++ member (codes "runner") (quoted runner) ++ codes "}"
 
 -- a command that has a run alone
 abbrev pub json_of_run : List ℕ → ℕ → List ℕ
@@ -61,10 +63,12 @@ command_json (command.Claim claim) = claim_json claim
 command_json (command.Done done) = done_json done
 command_json (command.Beat beat) = beat_json beat
 command_json (command.Cancel run) = json_of_run (codes "cancel") run
-command_json (command.Lost runner) = lost_json runner
+command_json (command.Lost runner) = json_of_runner (codes "lost") runner
 command_json (command.Look run) = json_of_run (codes "look") run
 command_json (command.Fetch run) = json_of_run (codes "fetch") run
 command_json (command.Rerun again) = rerun_json again
+command_json (command.Forget run) = json_of_run (codes "forget") run
+command_json (command.Discharge runner) = json_of_runner (codes "discharge") runner
 
 -- ---- replies, without the view of a run and without a body
 
@@ -87,15 +91,21 @@ entry_line place at c r =
     ++ member (codes "reply") (quoted (short_reply c r)) ++ member (codes "at") (decimal at) ++ codes "}")
 
 -- a run that begins an attempt, with all members of its row, as it is after the entries up to a place
-unfoldable pub attempt_line : ℕ → ℕ → List RunState → Seen → List ℕ
-attempt_line place at runs seen =
-    line (codes "{\"after\":" ++ decimal place ++ codes "," ++ run_members runs seen ++ member (codes "at") (decimal at) ++ codes "}")
+unfoldable pub attempt_line : ℕ → ℕ → TableState → Seen → List ℕ
+attempt_line place at t seen =
+    line (codes "{\"after\":" ++ decimal place ++ codes "," ++ run_members t seen ++ member (codes "at") (decimal at) ++ codes "}")
 
 -- a run with its id, as it is after the entries up to a place
 unfoldable pub run_change_line : ℕ → ℕ → ℕ → RunState → List ℕ
 run_change_line place at id run =
     line (codes "{\"after\":" ++ decimal place ++ member (codes "run") (decimal id) ++ member (codes "attempt") (decimal run.attempt)
     ++ state_members run ++ member (codes "at") (decimal at) ++ codes "}")
+
+-- the runs with ids through this one are forgotten, as it is after the entries up to a place
+unfoldable pub forgotten_line : ℕ → ℕ → ℕ → List ℕ
+forgotten_line place at through =
+    line (codes "{\"after\":" ++ decimal place ++ member (codes "type") (quoted (codes "forgotten")) ++ member (codes "through") (decimal through)
+    ++ member (codes "at") (decimal at) ++ codes "}")
 
 -- where a leg is
 abbrev pub place_members : LegNews → List ℕ

@@ -49,6 +49,6 @@ holder_rows f runs r = filter_map (row_of_holder f runs) (Run r ∷ map Leg (leg
 
 pub record IsHolderPage (f : GroupFilter) (from limit : ℕ) (t : TableState) (text : List ℕ) : Type 0 where
   pub count : ℕ
-  pub page : IsPage (λ r. length (holder_rows f t.runs r)) (start_at t.runs from) (length t.runs - start_at t.runs from) limit most_looked count
-  pub is : text ≡ page_text (codes "groups") (rows_from (holder_rows f t.runs) (start_at t.runs from) count) count
-      (codes "from") (number_or_null (next_run (length t.runs) (start_at t.runs from + count)))
+  pub page : IsPage (λ r. length (holder_rows f t.runs r)) (start_at t from) (length t.runs - start_at t from) limit most_looked count
+  pub is : text ≡ page_text (codes "groups") (rows_from (holder_rows f t.runs) (start_at t from) count) count
+      (codes "from") (number_or_null (next_run t (start_at t from + count)))

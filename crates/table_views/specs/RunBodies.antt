@@ -1,7 +1,7 @@
 -- The body of a run, as it was admitted.
 use Rattle.std.specs.Prelude.{ℕ, List, Option, option_map}
-use Rattle.table_model.specs.Runs.{RunState}
-use Rattle.table_model.specs.ViewText.{seen_of}
+use Rattle.table_model.specs.Step.{seen}
+use Rattle.table_model.specs.TableState.{TableState}
 
-abbrev pub run_body : List RunState → ℕ → Option (List ℕ)
-run_body runs id = option_map (λ seen. seen.run.admitted.body) (seen_of runs id)
+abbrev pub run_body : TableState → ℕ → Option (List ℕ)
+run_body t id = option_map (λ view. view.run.admitted.body) (seen t id)

@@ -4,6 +4,7 @@ use Rattle.std.specs.Str.{bytes_eq}
 use Rattle.wf_reader.specs.Event.{event_of}
 use Rattle.definitions.specs.SmallText.{Admitted}
 use Rattle.table_model.specs.Runs.{RunState}
+use Rattle.table_model.specs.TableState.{TableState}
 use Rattle.table_model.specs.ViewText.{Seen, status_text}
 use Rattle.table_views.specs.RunRows.{conclusion_at, own_group, ref_of}
 use Rattle.table_views.specs.declared.run_filter.RunFilter.{RunFilter}
@@ -32,10 +33,10 @@ is_event_wanted f event =
 unfoldable pub is_ref_wanted : RunFilter → Admitted → Bool
 is_ref_wanted f event = is_wanted_of f.reference (ref_of event)
 
-unfoldable pub is_group_wanted : RunFilter → List RunState → ℕ → Bool
-is_group_wanted f runs id = is_wanted_of f.group (own_group runs id)
+unfoldable pub is_group_wanted : RunFilter → TableState → ℕ → Bool
+is_group_wanted f t id = is_wanted_of f.group (own_group t id)
 
 -- whether a run is one that the filter lets through
-abbrev pub is_shown : RunFilter → List RunState → Seen → Bool
-is_shown f runs seen =
-    is_state_wanted f seen.run && (is_event_wanted f seen.run.admitted && (is_ref_wanted f seen.run.admitted && is_group_wanted f runs seen.id))
+abbrev pub is_shown : RunFilter → TableState → Seen → Bool
+is_shown f t seen =
+    is_state_wanted f seen.run && (is_event_wanted f seen.run.admitted && (is_ref_wanted f seen.run.admitted && is_group_wanted f t seen.id))

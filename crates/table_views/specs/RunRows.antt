@@ -1,5 +1,5 @@
 -- A run as a row of a list. The format is defined by this project. GitHub Docs, "REST API endpoints for workflow runs" and "Contexts reference".
-use Rattle.std.specs.Prelude.{ℕ, ◌-◌, ◌==◌, List, [], ◌∷◌, ◌++◌, codes, decimal, Option, Some, None, option_map, option_and_then}
+use Rattle.std.specs.Prelude.{ℕ, ◌==◌, List, [], ◌∷◌, ◌++◌, codes, decimal, Option, Some, None, option_map, option_and_then}
 use Rattle.std.specs.List.{before_first}
 use Rattle.std.specs.Option.{option_or}
 use Rattle.wf_value.specs.ScalarValue.{outcome_word}
@@ -15,6 +15,7 @@ use Rattle.table_model.specs.Runs.{JobState, RunState}
 use Rattle.table_model.specs.declared.holder.Holder.TheVariants.{Run}
 use Rattle.table_model.specs.declared.phases.RunPhase.{RunPhase}
 use Rattle.table_model.specs.declared.phases.RunPhase.TheVariants as phase
+use Rattle.table_model.specs.TableState.{TableState, index_of}
 use Rattle.table_model.specs.ViewText.{Seen, results_of, status_text}
 use Rattle.table_views.specs.Members.{member, text_or_null}
 use Rattle.table_views.specs.Texts.{quoted}
@@ -57,9 +58,9 @@ conclusion_at phase.Waiting jobs = None
 conclusion_at phase.Live jobs = None
 conclusion_at phase.Ended jobs = Some (outcome_word (conclusion_of (results_of jobs)))
 
--- the case-folded name of the group that the run itself asks for
-abbrev pub own_group : List RunState → ℕ → Option (List ℕ)
-own_group runs id = option_map name_bytes (group_at runs (Run (id - 1)))
+-- the case-folded name of the group that the run with an id itself asks for
+abbrev pub own_group : TableState → ℕ → Option (List ℕ)
+own_group t id = option_map name_bytes (group_at t.runs (Run (index_of t id)))
 
 -- ---- its members
 
@@ -93,10 +94,10 @@ state_members run =
     member (codes "status") (quoted (status_text run.phase run.jobs))
     ++ member (codes "conclusion") (text_or_null (conclusion_at run.phase run.jobs))
 
-abbrev pub run_members : List RunState → Seen → List ℕ
-run_members runs seen =
+abbrev pub run_members : TableState → Seen → List ℕ
+run_members t seen =
     number_members seen ++ origin_members seen.run.admitted ++ event_members seen.run.admitted ++ head_members seen.run.admitted
-    ++ state_members seen.run ++ member (codes "group") (text_or_null (own_group runs seen.id))
+    ++ state_members seen.run ++ member (codes "group") (text_or_null (own_group t seen.id))
 
-abbrev pub run_row : List RunState → Seen → List ℕ
-run_row runs seen = codes "{" ++ run_members runs seen ++ codes "}"
+abbrev pub run_row : TableState → Seen → List ℕ
+run_row t seen = codes "{" ++ run_members t seen ++ codes "}"

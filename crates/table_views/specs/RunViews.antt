@@ -16,7 +16,7 @@ use Rattle.table_model.specs.declared.phases.LegPhase.TheVariants as leg
 use Rattle.table_model.specs.declared.phases.RunPhase.{RunPhase}
 use Rattle.table_model.specs.declared.phases.RunPhase.TheVariants as phase
 use Rattle.table_model.specs.declared.sites.LegSite.{LegSite}
-use Rattle.table_model.specs.TableState.{RunnerState, TableState}
+use Rattle.table_model.specs.TableState.{RunnerState, TableState, index_of}
 use Rattle.table_model.specs.ViewText.{Seen, leg_text}
 use Rattle.table_views.specs.LeaseNames.{NamesState, name_of}
 use Rattle.table_views.specs.Members.{member, number_or_null, text_or_null}
@@ -71,11 +71,11 @@ runner_of runners l =
 abbrev pub leg_runner : NamesState → List RunnerState → LegState → Option (List ℕ)
 leg_runner names runners l = option_or (runner_of runners l) (option_and_then (name_of names) l.lease)
 
--- a leg at a site, in an attempt of its run, as a line of changes tells it
-abbrev pub leg_news : NamesState → TableState → LegSite → ℕ → LegState → LegNews
-leg_news names t p attempt l = record {
-  run = p.run + 1;
-  attempt = attempt;
+-- a leg at a site, in the present attempt of its run, as a line of changes tells it
+abbrev pub leg_news : NamesState → TableState → LegSite → RunState → LegState → LegNews
+leg_news names t p run l = record {
+  run = run.id;
+  attempt = run.attempt;
   job = job_id t.runs p.run p.job;
   leg = p.leg;
   state = l;
@@ -137,12 +137,12 @@ truth b = if b then codes "true" else codes "false"
 
 abbrev pub run_view_text : TableState → Seen → List (List ℕ) → Option ℕ → List ℕ
 run_view_text t seen jobs next =
-    line (codes "{" ++ run_members t.runs seen ++ member (codes "stopping") (truth seen.run.stopping)
-    ++ member (codes "waits_for") (run_waits_for seen.run.phase (own_group t.runs seen.id))
+    line (codes "{" ++ run_members t seen ++ member (codes "stopping") (truth seen.run.stopping)
+    ++ member (codes "waits_for") (run_waits_for seen.run.phase (own_group t seen.id))
     ++ member (codes "jobs") (listed jobs) ++ member (codes "from") (number_or_null next) ++ codes "}")
 
 -- the text of a run with its jobs from an index on
 pub record IsRunView (from : ℕ) (names : NamesState) (t : TableState) (seen : Seen) (text : List ℕ) : Type 0 where
   pub count : ℕ
   pub page : IsPage (legs_of_job seen.run) from (length seen.run.jobs - from) full_run most_looked count
-  pub is : text ≡ run_view_text t seen (rows_from (job_rows names t (seen.id - 1) seen.run) from count) (next_job (length seen.run.jobs) (from + count))
+  pub is : text ≡ run_view_text t seen (rows_from (job_rows names t (index_of t seen.id) seen.run) from count) (next_job (length seen.run.jobs) (from + count))

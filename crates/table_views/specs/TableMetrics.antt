@@ -1,8 +1,10 @@
 -- The numbers of a table, in Prometheus' text format. Their names are defined by this project.
-use Rattle.std.specs.Prelude.{ℕ, List, ◌++◌, codes, flat_map, is_some, length, map}
+use Rattle.std.specs.Prelude.{ℕ, List, ◌++◌, codes, find, flat_map, is_some, length, map, not}
 use Rattle.std.specs.List.{count_by, filter}
+use Rattle.std.specs.Option.{option_map_or}
 use Rattle.table_model.specs.Runs.{leg_sites, RunState}
 use Rattle.table_model.specs.declared.sites.LegSite.{LegSite}
+use Rattle.table_model.specs.Step.{has_completed}
 use Rattle.table_model.specs.TableState.{RunnerState, TableState}
 use Rattle.table_views.specs.LegCounting.{leg_lines}
 use Rattle.table_views.specs.MetricLines.{capped, head, metric, value_line}
@@ -37,10 +39,22 @@ leases_of runners = capped (count_by (λ runner. is_some runner.holds) runners)
 
 abbrev pub runner_lines : List RunnerState → List ℕ
 runner_lines runners =
-    metric (codes "acts_runners") (codes "gauge") (codes "Runners that have ever claimed.") (length runners)
+    metric (codes "acts_runners") (codes "gauge") (codes "Runners that have claimed and were not discharged.") (length runners)
     ++ metric (codes "acts_leases") (codes "gauge") (codes "Runners that hold a lease.") (leases_of runners)
+
+-- ---- forgotten runs
+
+-- the id of the first run that has not completed, which keeps those behind it from being forgotten; 0 if all have
+abbrev pub first_open_run : List RunState → ℕ
+first_open_run runs = option_map_or (λ run. run.id) (find (λ run. not (has_completed run.phase)) runs) 0
+
+abbrev pub forgotten_lines : TableState → List ℕ
+forgotten_lines t =
+    metric (codes "acts_forgotten_runs") (codes "gauge") (codes "Runs that are forgotten: those with ids up to this one.") t.forgotten.through
+    ++ metric (codes "acts_first_open_run") (codes "gauge")
+    (codes "The first run that has not completed, which keeps later ones from being forgotten; 0 if all have.") (first_open_run t.runs)
 
 -- ---- all
 
 abbrev pub table_metrics : TableState → List ℕ
-table_metrics t = run_lines t.runs ++ leg_lines t.runs ++ ready_lines t.runs ++ runner_lines t.runners
+table_metrics t = run_lines t.runs ++ leg_lines t.runs ++ ready_lines t.runs ++ runner_lines t.runners ++ forgotten_lines t

@@ -13,7 +13,7 @@ use wf_value::Refusal;
 /// Promise (Views of a service): The body of a run is shown as it was admitted, byte by byte; none is shown exactly if there is no run with this id
 /// By: `table_views::run_body` (`run_body`)
 pub fn run_body(alloc: Global, table: &Table, id: Number) -> Result<Option<String>, Refusal>
-    ensures { Gives (λ body. option_map string_bytes body) result (Ok (run_body table.now.runs id)) }
+    ensures { Gives (λ body. option_map string_bytes body) result (Ok (run_body table.now id)) }
 {
     let Some(view) = table.look(id) else {
         return Ok(None);

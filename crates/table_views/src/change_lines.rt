@@ -2,7 +2,7 @@
 
 ghost use Rattle.std.specs.Prelude.{◌≡◌, ◌++◌, IfOk, Ok, length, map, string_bytes};
 ghost use Rattle.wf_value.specs.Gives.{Gives};
-ghost use Rattle.table_views.specs.ChangeLines.{admit_json, beat_json, claim_json, command_json, done_json, entry_line, json_of_run, leg_change_line, leg_state_members, lost_json, named, attempt_line, place_members, rerun_json, run_change_line, short_reply, short_view};
+ghost use Rattle.table_views.specs.ChangeLines.{admit_json, beat_json, claim_json, command_json, done_json, entry_line, forgotten_line, json_of_run, json_of_runner, leg_change_line, leg_state_members, named, attempt_line, place_members, rerun_json, run_change_line, short_reply, short_view};
 ghost use Rattle.table_views.specs.Texts.{listed, quoted};
 
 use crate::members::{number_or_null, push_member, push_number, push_text, push_text_or_null};
@@ -11,10 +11,9 @@ use crate::run_rows::{as_text, push_state, run_members};
 use crate::texts::{listed, quoted};
 use crate::told_legs::LegNews;
 use run_plan::{Attempt, Beat, Claim, Command, Done, Label, Number, Prepared, Reply, RunnerName};
-use run_table::{RunView, leg_word};
+use run_table::{RunView, Table, leg_word};
 use std::alloc::{AllocError, Global};
 use table_model::Run;
-use table_runs::runs::Runs;
 use wf_value::{Chars, Refusal, TryCopy};
 
 // ---- commands, without a body
@@ -92,10 +91,11 @@ fn beat_json(alloc: Global, beat: &Beat) -> Result<String, Refusal>
     Ok(text)
 }
 
-fn lost_json(alloc: Global, runner: &RunnerName) -> Result<String, Refusal>
-    ensures { Gives string_bytes result (Ok (lost_json runner.now)) }
+/// A command that has a runner alone.
+fn json_of_runner(alloc: Global, name: &str, runner: &RunnerName) -> Result<String, Refusal>
+    ensures { Gives string_bytes result (Ok (json_of_runner name.now runner.now)) }
 {
-    let mut text = named(alloc, "lost")?;
+    let mut text = named(alloc, name)?;
     push_text(alloc, &mut text, "runner", runner.as_str())?;
     text.push_str("}")?;
     Ok(text)
@@ -131,10 +131,12 @@ fn command_json(alloc: Global, command: &Command) -> Result<String, Refusal>
         Command::Done(done) => done_json(alloc, done),
         Command::Beat(beat) => beat_json(alloc, beat),
         Command::Cancel(run) => json_of_run(alloc, "cancel", *run),
-        Command::Lost(runner) => lost_json(alloc, runner),
+        Command::Lost(runner) => json_of_runner(alloc, "lost", runner),
         Command::Look(run) => json_of_run(alloc, "look", *run),
         Command::Fetch(run) => json_of_run(alloc, "fetch", *run),
         Command::Rerun(again) => rerun_json(alloc, again),
+        Command::Forget(run) => json_of_run(alloc, "forget", *run),
+        Command::Discharge(runner) => json_of_runner(alloc, "discharge", runner),
     }
 }
 
@@ -195,12 +197,12 @@ pub fn attempt_line(
     alloc: Global,
     place: u64,
     at: u64,
-    runs: &Runs,
+    table: &Table,
     view: &RunView<'_>,
 ) -> Result<String, Refusal>
-    ensures { Gives string_bytes result (Ok (attempt_line place at runs.now view.now)) }
+    ensures { Gives string_bytes result (Ok (attempt_line place at table.now view.now)) }
 {
-    let members = run_members(alloc, runs, view)?;
+    let members = run_members(alloc, table, view)?;
     let mut text = format!(in alloc; "{{\"after\":{place},{members}")?;
     push_number(&mut text, "at", at)?;
     text.push_str("}\n")?;
@@ -222,6 +224,19 @@ pub fn run_change_line(
     push_number(&mut text, "run", u64::from(id.get()))?;
     push_number(&mut text, "attempt", u64::from(run.attempt().get()))?;
     push_state(alloc, &mut text, run)?;
+    push_number(&mut text, "at", at)?;
+    text.push_str("}\n")?;
+    Ok(text)
+}
+
+/// The line of the forgotten runs, those with ids through this one, as it is after the entries up to a place.
+#[tactic(auto, unfolding(crate::specs::ChangeLines::forgotten_line))]
+pub fn forgotten_line(alloc: Global, place: u64, at: u64, through: u32) -> Result<String, Refusal>
+    ensures { Gives string_bytes result (Ok (forgotten_line place at through)) }
+{
+    let mut text = format!(in alloc; "{{\"after\":{place}")?;
+    push_text(alloc, &mut text, "type", "forgotten")?;
+    push_number(&mut text, "through", u64::from(through))?;
     push_number(&mut text, "at", at)?;
     text.push_str("}\n")?;
     Ok(text)

@@ -147,10 +147,10 @@ pub fn holder_page(
     ensures page { IfOk result (λ text. IsHolderPage filter.now from limit table.now (string_bytes text)) }
 {
     let runs = table.kept_runs();
-    let start = start_at(runs, from);
+    let start = start_at(table, from);
     let left = runs.len() - start;
     let page = page_of(alloc, &Holders { runs, filter }, start, left, limit)?;
-    let next = number_or_null(alloc, next_run(runs.len(), start + page.count))?;
+    let next = number_or_null(alloc, next_run(table, start + page.count))?;
     page_text(
         alloc,
         "groups",

@@ -33,7 +33,9 @@ mod told_legs;
 mod waiting;
 
 pub use bodies::run_body;
-pub use change_lines::{attempt_line, entry_line, leg_change_line, run_change_line};
+pub use change_lines::{
+    attempt_line, entry_line, forgotten_line, leg_change_line, run_change_line,
+};
 pub use form::Form;
 pub use group_filter::GroupFilter;
 pub use group_holders::holder_page;

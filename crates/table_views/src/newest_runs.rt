@@ -1,7 +1,7 @@
 //! A page of the runs of a table, newest first.
 
 ghost use Rattle.std.specs.Prelude.{◌≡◌, ◌<◌, ◌≤◌, ◌++◌, ◌^◌, IfOk, List, OnOk, length, string_bytes};
-ghost use Rattle.table_model.specs.Runs.{RunState};
+ghost use Rattle.table_model.specs.TableState.{TableState, index_of};
 ghost use Rattle.wf_value.specs.Gives.{ErrsOnlyByMemory};
 ghost use Rattle.definitions.specs.Limits.{max_runs};
 ghost use Rattle.table_views.specs.RunPages.{IsRunsPage, newest_rows, next_below, runs_below, shown_row};
@@ -27,9 +27,9 @@ struct Newest<'a> {
 impl Source for Newest<'_> {
     ghost size = { λ s. s.top };
 
-    ghost rows = { λ s index. newest_rows s.filter.now s.table.now.runs s.top index };
+    ghost rows = { λ s index. newest_rows s.filter.now s.table.now s.top index };
 
-    ghost weigh = { λ s index. length (newest_rows s.filter.now s.table.now.runs s.top index) };
+    ghost weigh = { λ s index. length (newest_rows s.filter.now s.table.now s.top index) };
 
     fn push_rows(
         &self,
@@ -37,56 +37,67 @@ impl Source for Newest<'_> {
         index: usize,
         out: &mut Vec<Chars>,
     ) -> Result<usize, Refusal> {
-        let id = self.top - index;
-        push_shown(alloc, self.table, self.filter, id, out)
+        push_shown(alloc, self.table, self.filter, self.top - index, out)
     }
 }
 
-/// Adds the row of the run with an id, if there is one and the list shows it. Returns how many rows that are.
+/// The id of the run at a place, which counts from 1, among those that are not forgotten.
+fn id_at(table: &Table, place: usize) -> Number
+    requires least { 0 < place }
+    requires most { place ≤ length table.now.runs }
+    ensures { result ≡ table.now.forgotten.through + place }
+{
+    Number::new(table.through() + place as u32)
+}
+
+/// Adds the row of the run at a place, which counts from 1, if the list shows it. Returns how many rows that are.
 fn push_shown(
     alloc: Global,
     table: &Table,
     filter: &RunFilter,
-    id: usize,
+    place: usize,
     rows: &mut Vec<Chars>,
 ) -> Result<usize, Refusal>
-    requires least { 0 < id }
-    requires most { id ≤ length table.now.runs }
+    requires least { 0 < place }
+    requires most { place ≤ length table.now.runs }
     ensures err { ErrsOnlyByMemory result }
-    ensures rows { OnOk result (rows.new.items ≡ rows.old.items ++ shown_row filter.now table.now.runs id) }
-    ensures count { IfOk result (λ n. n ≡ length (shown_row filter.now table.now.runs id)) }
+    ensures rows { OnOk result (rows.new.items
+        ≡ rows.old.items ++ shown_row filter.now table.now (table.now.forgotten.through + place)) }
+    ensures count { IfOk result (λ n. n ≡ length (shown_row filter.now table.now (table.now.forgotten.through + place))) }
     ensures bound { IfOk result (λ n. n < 2 ^ 63) }
 {
-    let runs = table.kept_runs();
-    let _count = runs.len();
-    let Some(view) = table.look(Number::new(id as u32)) else {
+    let id = id_at(table, place);
+    let Some(view) = table.look(id) else {
         return Ok(0);
     };
-    if !filter.shows(alloc, runs, &view)? {
+    if !filter.shows(alloc, table, &view)? {
         return Ok(0);
     }
-    let row = run_row(alloc, runs, &view)?;
+    let row = run_row(alloc, table, &view)?;
     rows.push(Chars::new(row))?;
     Ok(1)
 }
 
-/// How many runs are below an id, or all.
-fn runs_below(count: usize, before: Option<Number>) -> usize
-    ensures { (runs : List RunState) → length runs ≡ count → result ≡ runs_below runs before }
+/// How many of the runs that are not forgotten are below an id, or all.
+fn runs_below(table: &Table, before: Option<Number>) -> usize
+    ensures below { result ≡ runs_below table.now before }
+    ensures within { result ≤ length table.now.runs }
+    ensures few { result ≤ max_runs }
 {
+    let count = table.kept_runs().len();
     match before {
-        Some(before) => count.min(before.get() as usize - 1),
+        Some(before) => count.min(table.index_of(before)),
         None => count,
     }
 }
 
 /// The id below which the list goes on after `count` of `top` runs.
-fn next_below(top: usize, count: usize) -> Option<u64>
+fn next_below(table: &Table, top: usize, count: usize) -> Option<u64>
     requires { top ≤ max_runs }
-    ensures { result ≡ next_below top count }
+    ensures { result ≡ next_below table.now top count }
 {
     if count < top {
-        Some((top - count) as u64 + 1)
+        Some(u64::from(table.through()) + (top - count) as u64 + 1)
     } else {
         None
     }
@@ -115,10 +126,10 @@ pub fn runs_page(
     ensures err { ErrsOnlyByMemory result }
     ensures page { IfOk result (λ text. IsRunsPage filter.now before limit table.now (string_bytes text)) }
 {
-    let top = runs_below(table.kept_runs().len(), before);
+    let top = runs_below(table, before);
     let newest = Newest { table, filter, top };
     let page = page_of(alloc, &newest, 0, top, limit)?;
-    let next = number_or_null(alloc, next_below(top, page.count))?;
+    let next = number_or_null(alloc, next_below(table, top, page.count))?;
     page_text(
         alloc,
         "runs",

@@ -3,7 +3,9 @@
 ghost use Rattle.std.specs.Prelude.{◌≡◌, ◌++◌, ◌+◌, ◌-◌, ◌<◌, ◌≤◌, ◌^◌, IfOk, MatchOption, None, Ok, Some, find, length, min, option_and_then, option_map, slice_get, string_bytes};
 ghost use Rattle.wf_value.specs.Gives.{ErrsOnlyByMemory, Gives};
 ghost use Rattle.run_plan.specs.PlanOf.{plan_of};
-ghost use Rattle.table_model.specs.ViewText.{Seen, seen_of};
+ghost use Rattle.table_model.specs.Step.{seen};
+ghost use Rattle.table_model.specs.TableState.{index_of};
+ghost use Rattle.table_model.specs.ViewText.{Seen};
 ghost use Rattle.table_views.specs.LeaseNames.{name_of};
 ghost use Rattle.table_views.specs.RunViews.{IsRunView, holds_lease, job_row, job_rows, leg_row, leg_rows, leg_runner, legs_of_job, next_job, plan_members, run_view_text, runner_of, standing_members, truth, wish_members};
 
@@ -230,7 +232,7 @@ struct Jobs<'a> {
 impl Source for Jobs<'_> {
     ghost size = { λ s. length s.view.now.run.jobs };
 
-    ghost rows = { λ s j. job_rows s.names.now s.table.now (s.view.now.id - 1) s.view.now.run j };
+    ghost rows = { λ s j. job_rows s.names.now s.table.now (index_of s.table.now s.view.now.id) s.view.now.run j };
 
     ghost weigh = { λ s j. legs_of_job s.view.now.run j };
 
@@ -241,7 +243,7 @@ impl Source for Jobs<'_> {
         out: &mut Vec<Chars>,
     ) -> Result<usize, Refusal> {
         let run = self.view.run();
-        let r = self.view.id().get() as usize - 1;
+        let r = self.table.index_of(self.view.id());
         let Some(job) = run.job(index) else {
             return Ok(0);
         };
@@ -283,9 +285,8 @@ fn run_view_text(
 ) -> Result<String, Refusal>
     ensures { Gives string_bytes result (Ok (run_view_text table.now view.now jobs.now next)) }
 {
-    let runs = table.kept_runs();
-    let members = run_members(alloc, runs, view)?;
-    let group = own_group(alloc, runs, view.id())?;
+    let members = run_members(alloc, table, view)?;
+    let group = own_group(alloc, table, view.id())?;
     let waits_for = run_waits_for(alloc, view.run().phase(), &group)?;
     let jobs = listed(alloc, jobs)?;
     let next = number_or_null(alloc, next)?;
@@ -329,8 +330,8 @@ pub fn run_view(
     from: usize,
 ) -> Result<Option<String>, Refusal>
     ensures err { ErrsOnlyByMemory result }
-    ensures view { IfOk result (λ found. MatchOption found (seen_of table.now.runs id ≡ None) (λ text. (seen : Seen)
-        × (seen_of table.now.runs id ≡ Some seen) × IsRunView (min from (length seen.run.jobs)) names.now table.now seen (string_bytes text))) }
+    ensures view { IfOk result (λ found. MatchOption found (seen table.now id ≡ None) (λ text. (view : Seen)
+        × (seen table.now id ≡ Some view) × IsRunView (min from (length view.run.jobs)) names.now table.now view (string_bytes text))) }
 {
     let Some(view) = table.look(id) else {
         return Ok(None);

@@ -6,10 +6,9 @@ ghost use Rattle.table_views.specs.RunFilters.{is_event_wanted, is_group_wanted,
 
 use crate::run_rows::{as_text, conclusion_at, own_group, ref_of};
 use run_plan::Prepared;
-use run_table::{RunView, status_word};
+use run_table::{RunView, Table, status_word};
 use std::alloc::Global;
 use table_model::Run;
-use table_runs::runs::Runs;
 use wf_value::{Chars, Refusal};
 
 /// The runs that a list shows: those with each of the given texts.
@@ -95,15 +94,15 @@ impl RunFilter {
     fn is_group_wanted(
         &self,
         alloc: Global,
-        runs: &Runs,
+        table: &Table,
         view: &RunView<'_>,
     ) -> Result<bool, Refusal>
-        ensures { Gives (λ b. b) result (Ok (is_group_wanted self.now runs.now view.now.id)) }
+        ensures { Gives (λ b. b) result (Ok (is_group_wanted self.now table.now view.now.id)) }
     {
         if self.group.is_none() {
             return Ok(true);
         }
-        let group = own_group(alloc, runs, view.id())?;
+        let group = own_group(alloc, table, view.id())?;
         Ok(is_wanted_of(&self.group, as_text(&group)))
     }
 
@@ -111,10 +110,10 @@ impl RunFilter {
     pub(crate) fn shows(
         &self,
         alloc: Global,
-        runs: &Runs,
+        table: &Table,
         view: &RunView<'_>,
     ) -> Result<bool, Refusal>
-        ensures { Gives (λ b. b) result (Ok (is_shown self.now runs.now view.now)) }
+        ensures { Gives (λ b. b) result (Ok (is_shown self.now table.now view.now)) }
     {
         let run = view.run();
         if !self.is_state_wanted(run) || !self.is_event_wanted(run.prepared()) {
@@ -123,6 +122,6 @@ impl RunFilter {
         if !self.is_ref_wanted(alloc, run.prepared())? {
             return Ok(false);
         }
-        self.is_group_wanted(alloc, runs, view)
+        self.is_group_wanted(alloc, table, view)
     }
 }

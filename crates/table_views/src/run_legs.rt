@@ -7,6 +7,7 @@ ghost use Rattle.table_views.specs.ReadyPages.{legs_at, next_run, start_at};
 
 use crate::sites::push_legs_of_run;
 use run_plan::Number;
+use run_table::Table;
 use std::alloc::{AllocError, Global};
 use table_model::LegSite;
 use table_runs::runs::Runs;
@@ -23,20 +24,20 @@ pub(crate) fn legs_at(alloc: Global, runs: &Runs, r: usize) -> Result<Vec<LegSit
     Ok(sites)
 }
 
-/// The index of the run with an id, or the end of the runs.
-pub(crate) fn start_at(runs: &Runs, from: Number) -> usize
-    ensures start { result ≡ start_at runs.now from }
-    ensures within { result ≤ length runs.now }
+/// The index of the run with an id, of the first run that is not forgotten, or the end of the runs.
+pub(crate) fn start_at(table: &Table, from: Number) -> usize
+    ensures start { result ≡ start_at table.now from }
+    ensures within { result ≤ length table.now.runs }
 {
-    runs.len().min(from.get() as usize - 1)
+    table.runs().len().min(table.index_of(from))
 }
 
 /// The id of the run at an index, if there is one.
-pub(crate) fn next_run(runs: usize, index: usize) -> Option<u64>
-    ensures { result ≡ next_run runs index }
+pub(crate) fn next_run(table: &Table, index: usize) -> Option<u64>
+    ensures { result ≡ next_run table.now index }
 {
-    if index < runs {
-        Some(index as u64 + 1)
+    if index < table.runs().len() {
+        Some(u64::from(table.through()) + index as u64 + 1)
     } else {
         None
     }

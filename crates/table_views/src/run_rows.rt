@@ -2,12 +2,15 @@
 
 ghost use Rattle.std.specs.Prelude.{◌≡◌, ◌++◌, IfOk, Ok, option_map, string_bytes};
 ghost use Rattle.wf_value.specs.Gives.{Gives};
+ghost use Rattle.group_name.specs.KeyTexts.{name_bytes};
+ghost use Rattle.table_model.specs.Groups.{group_at};
+ghost use Rattle.table_model.specs.declared.holder.Holder.TheVariants.{Run as OfRun};
 ghost use Rattle.table_model.specs.inner.Cells.{states};
 ghost use Rattle.table_views.specs.RunRows.{commit_title, conclusion_at, event_members, first_line, github_member, github_text, head_members, number_members, origin_members, own_group, pull_title, ref_of, run_members, run_row, sent_text, state_members, title_of};
 
 use crate::members::{push_number, push_text, push_text_or_null};
 use run_plan::{Number, Prepared};
-use run_table::{RunView, conclusion_word, status_word};
+use run_table::{RunView, Table, conclusion_word, status_word};
 use std::alloc::{AllocError, Global};
 use table_model::{Holder, Job, Run, RunPhase};
 use table_runs::runs::Runs;
@@ -113,11 +116,17 @@ pub(crate) fn conclusion_at(phase: RunPhase, jobs: &[Job]) -> Option<&'static st
     }
 }
 
-/// The case-folded name of the group that a run asks for.
-pub(crate) fn own_group(alloc: Global, runs: &Runs, id: Number) -> Result<Option<Chars>, Refusal>
-    ensures { Gives (λ name. name) result (Ok (own_group runs.now id)) }
+/// The case-folded name of the group that the run with an id asks for.
+pub(crate) fn own_group(alloc: Global, table: &Table, id: Number) -> Result<Option<Chars>, Refusal>
+    ensures { Gives (λ name. name) result (Ok (own_group table.now id)) }
 {
-    let index = id.get() as usize - 1;
+    group_of_run(alloc, table.kept_runs(), table.index_of(id))
+}
+
+/// The case-folded name of the group that the run at an index asks for.
+fn group_of_run(alloc: Global, runs: &Runs, index: usize) -> Result<Option<Chars>, Refusal>
+    ensures { Gives (λ name. name) result (Ok (option_map name_bytes (group_at runs.now (OfRun index)))) }
+{
     match runs.group(alloc, &Holder::Run(index))? {
         Some(group) => Ok(Some(Chars::from_str(alloc, group.name())?)),
         None => Ok(None),
@@ -203,10 +212,14 @@ pub(crate) fn push_state(alloc: Global, text: &mut String, run: &Run) -> Result<
 }
 
 /// The members of a run in a list.
-pub(crate) fn run_members(alloc: Global, runs: &Runs, view: &RunView<'_>) -> Result<String, Refusal>
-    ensures { Gives string_bytes result (Ok (run_members runs.now view.now)) }
+pub(crate) fn run_members(
+    alloc: Global,
+    table: &Table,
+    view: &RunView<'_>,
+) -> Result<String, Refusal>
+    ensures { Gives string_bytes result (Ok (run_members table.now view.now)) }
 {
-    let group = own_group(alloc, runs, view.id())?;
+    let group = own_group(alloc, table, view.id())?;
     let mut text = number_members(alloc, view)?;
     push_origin(alloc, &mut text, view.run().prepared())?;
     push_event(alloc, &mut text, view.run().prepared())?;
@@ -216,9 +229,9 @@ pub(crate) fn run_members(alloc: Global, runs: &Runs, view: &RunView<'_>) -> Res
     Ok(text)
 }
 
-pub(crate) fn run_row(alloc: Global, runs: &Runs, view: &RunView<'_>) -> Result<String, Refusal>
-    ensures { Gives string_bytes result (Ok (run_row runs.now view.now)) }
+pub(crate) fn run_row(alloc: Global, table: &Table, view: &RunView<'_>) -> Result<String, Refusal>
+    ensures { Gives string_bytes result (Ok (run_row table.now view.now)) }
 {
-    let members = run_members(alloc, runs, view)?;
+    let members = run_members(alloc, table, view)?;
     Ok(format!(in alloc; "{{{members}}}")?)
 }

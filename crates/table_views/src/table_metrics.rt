@@ -1,7 +1,7 @@
 //! The numbers of a table, in Prometheus' text format.
 
 ghost use Rattle.std.specs.Prelude.{◌≡◌, ◌++◌, OnOk, string_bytes};
-ghost use Rattle.table_views.specs.TableMetrics.{leases_of, runner_lines, table_metrics};
+ghost use Rattle.table_views.specs.TableMetrics.{first_open_run, forgotten_lines, leases_of, runner_lines, table_metrics};
 
 use crate::leg_counts::push_legs;
 use crate::metric_lines::{one_more, push_metric};
@@ -9,6 +9,7 @@ use crate::ready_counts::push_ready;
 use crate::run_counts::push_runs;
 use run_table::{Runner, Table};
 use std::alloc::{AllocError, Global};
+use table_model::{Run, RunPhase};
 use wf_value::Refusal;
 
 fn leases_of(runners: &[Runner]) -> u64
@@ -31,7 +32,7 @@ fn push_runners(alloc: Global, text: &mut String, runners: &[Runner]) -> Result<
         text,
         "acts_runners",
         "gauge",
-        "Runners that have ever claimed.",
+        "Runners that have claimed and were not discharged.",
         runners.len() as u64,
     )?;
     push_metric(
@@ -44,12 +45,47 @@ fn push_runners(alloc: Global, text: &mut String, runners: &[Runner]) -> Result<
     )
 }
 
+/// The id of the first run that has not completed; 0 if all have.
+fn first_open_run(runs: &[Run]) -> u64
+    ensures { result ≡ first_open_run runs.now }
+{
+    for run in runs {
+        if !matches!(run.phase(), RunPhase::Ended) {
+            return u64::from(run.id().get());
+        }
+    }
+    0
+}
+
+fn push_forgotten(alloc: Global, text: &mut String, table: &Table) -> Result<(), AllocError>
+    ensures { OnOk result (string_bytes text.new ≡ string_bytes text.old ++ forgotten_lines table.now) }
+{
+    push_metric(
+        alloc,
+        text,
+        "acts_forgotten_runs",
+        "gauge",
+        "Runs that are forgotten: those with ids up to this one.",
+        u64::from(table.through()),
+    )?;
+    push_metric(
+        alloc,
+        text,
+        "acts_first_open_run",
+        "gauge",
+        "The first run that has not completed, which keeps later ones from being forgotten; 0 if all have.",
+        first_open_run(table.runs()),
+    )
+}
+
 /// Appends the metrics of a table.
 /// Promise (Views of a service): Each run is counted at its status and conclusion, each leg at its state
 /// By: `table_views::push_table_metrics` (`table_metrics`, `run_counts`, `leg_counts`)
 /// Promise (Views of a service): Each ready leg is counted at the list of labels that it asks for, of which the first 50 that come have a line
 ///   each and all others one together
 /// By: `table_views::push_table_metrics` (`named`, `times`, `others`)
+/// Promise (Views of a service): The metrics say through which id runs are forgotten, and which run is the first that has not completed
+/// By: `table_views::push_table_metrics` (`forgotten_lines`)
 pub fn push_table_metrics(alloc: Global, text: &mut String, table: &Table) -> Result<(), Refusal>
     ensures { OnOk result (string_bytes text.new ≡ string_bytes text.old ++ table_metrics table.now) }
 {
@@ -58,5 +94,6 @@ pub fn push_table_metrics(alloc: Global, text: &mut String, table: &Table) -> Re
     push_legs(alloc, text, runs.as_slice())?;
     push_ready(alloc, text, runs)?;
     push_runners(alloc, text, table.runners())?;
+    push_forgotten(alloc, text, table)?;
     Ok(())
 }

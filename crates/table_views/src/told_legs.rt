@@ -1,7 +1,6 @@
 //! A leg as a line of changes tells it.
 
-ghost use Rattle.std.specs.Prelude.{◌≡◌, ◌<◌, Ok, option_map};
-ghost use Rattle.definitions.specs.Limits.{max_runs};
+ghost use Rattle.std.specs.Prelude.{◌≡◌, Ok, option_map};
 ghost use Rattle.wf_value.specs.Gives.{Gives};
 ghost use Rattle.table_views.specs.RunViews.{leg_news};
 
@@ -10,7 +9,7 @@ use crate::one_run::leg_runner;
 use run_plan::Number;
 use run_table::Table;
 use std::alloc::Global;
-use table_model::{Leg, LegSite};
+use table_model::{Leg, LegSite, Run};
 use wf_value::{Chars, Refusal};
 
 /// A leg of a run as it stands, with the runner to which its lease was given, if that is known.
@@ -33,23 +32,22 @@ fn copied(alloc: Global, text: Option<&str>) -> Result<Option<Chars>, Refusal>
     }
 }
 
-/// A leg at a site, in an attempt of its run.
+/// A leg at a site, in the present attempt of its run.
 pub fn leg_news(
     alloc: Global,
     table: &Table,
     names: &LeaseNames,
     site: LegSite,
-    attempt: Number,
+    run: &Run,
     leg: &Leg,
 ) -> Result<LegNews, Refusal>
-    requires { site.run < max_runs }
-    ensures { Gives (λ news. news) result (Ok (leg_news names.now table.now site attempt leg.now)) }
+    ensures { Gives (λ news. news) result (Ok (leg_news names.now table.now site run.now leg.now)) }
 {
     let job = table.kept_runs().job_id(alloc, site.run, site.job)?;
     let runner = copied(alloc, leg_runner(names, table.runners(), leg))?;
     Ok(LegNews {
-        run: Number::new(site.run as u32 + 1),
-        attempt,
+        run: run.id(),
+        attempt: run.attempt(),
         job,
         leg: site.leg,
         state: *leg,

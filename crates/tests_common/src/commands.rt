@@ -19,6 +19,8 @@ pub enum Words<'a> {
     Look(&'a str),
     Fetch(&'a str),
     Rerun(&'a str, &'a str),
+    Forget(&'a str),
+    Discharge(&'a str),
 }
 
 /// A value that must be present.
@@ -103,7 +105,7 @@ pub fn attempt(run: &str, attempt: &str) -> Result<Attempt, Refusal> {
     })
 }
 
-/// The command of what a runner sends, or that the runner is lost.
+/// The command of what a runner sends, or that the runner is lost or discharged.
 fn command_of_runner(alloc: Global, words: &Words<'_>) -> Result<Command, Refusal> {
     match words {
         Words::Claim(name, count, labels) => Ok(Command::Claim(claim(alloc, name, count, labels)?)),
@@ -112,6 +114,7 @@ fn command_of_runner(alloc: Global, words: &Words<'_>) -> Result<Command, Refusa
         }
         Words::Beat(name, lease) => Ok(Command::Beat(beat(alloc, name, lease)?)),
         Words::Lost(name) => Ok(Command::Lost(runner(alloc, name)?)),
+        Words::Discharge(name) => Ok(Command::Discharge(runner(alloc, name)?)),
         _ => Err(Refusal::Numbered(Code::Line)),
     }
 }
@@ -123,6 +126,7 @@ pub fn command_of(alloc: Global, words: &Words<'_>) -> Result<Command, Refusal> 
         Words::Look(run) => Ok(Command::Look(number(run)?)),
         Words::Fetch(run) => Ok(Command::Fetch(number(run)?)),
         Words::Rerun(run, next) => Ok(Command::Rerun(attempt(run, next)?)),
+        Words::Forget(run) => Ok(Command::Forget(number(run)?)),
         words => command_of_runner(alloc, words),
     }
 }

@@ -19,7 +19,7 @@ use std::{io, mem};
 use wf_value::{Code, Refusal};
 
 /// The token of the listener. Those of the clients follow it.
-pub const FIRST_TOKEN: usize = 2 + 2 * MAX_CLIENTS;
+pub const FIRST_TOKEN: usize = 3 + 2 * MAX_CLIENTS;
 
 /// The port to look at a service, and the version of the program and the board that it shows.
 #[derive(Clone, Copy)]

@@ -59,7 +59,7 @@ pub record IsCounted {D : Type 0} (s : StoreState D) (table : TableState) (pendi
 -- entries. It fits the area, with one gate before it and one after. The encodings of the entries since are kept behind it.
 pub record IsSnapshot (base : TableState) (history : List Entry) (generation area : ℕ) (b : Begun) : Type 0 where
   pub text : List ℕ
-  pub encodes : EncodesTable layouts.Second (table_after base (take b.place history)) text
+  pub encodes : EncodesTable layouts.Third (table_after base (take b.place history)) text
   pub prefix_is : b.head_and_text.items ≡ head_bytes (record { version = current_version; generation = generation + 1; text = text })
   pub place : b.place ≤ length history
   pub put : b.put ≤ length b.head_and_text.items

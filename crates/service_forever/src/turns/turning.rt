@@ -32,15 +32,15 @@ impl<D: Disk> Turns<'_, D> {
         self.service.store().entries() >= self.limits.commands || self.bytes >= MAX_BYTES
     }
 
-    /// Turns the history over if that is due and no checkpoint is in progress. Without memory for the next history it is
-    /// tried again in the next turn.
-    pub(crate) fn turn_over<O: Write>(&mut self, out: &mut O) -> Result<(), Refusal> {
+    /// Turns the history over if that is due and no checkpoint is in progress, and returns whether it has. Without memory for the next history
+    /// it is tried again in the next turn.
+    pub(crate) fn turn_over<O: Write>(&mut self, out: &mut O) -> Result<bool, Refusal> {
         if !self.is_due() || self.checkpoints.is_under_way() {
-            return Ok(());
+            return Ok(false);
         }
         let entries = self.service.store().entries();
         match self.service.turn_over() {
-            Err(Refusal::Numbered(Code::NoMemory)) => Ok(()),
+            Err(Refusal::Numbered(Code::NoMemory)) => Ok(false),
             Err(refusal) => Err(refusal),
             Ok(()) => {
                 self.checkpoints.turn_over();
@@ -48,7 +48,8 @@ impl<D: Disk> Turns<'_, D> {
                     views.turn_over();
                 }
                 self.bytes = 0;
-                tell_settled(entries, out)
+                tell_settled(entries, out)?;
+                Ok(true)
             }
         }
     }

@@ -16,11 +16,10 @@ loop-j-preserved c =
     let lt : j < length (states jobs) = omega (arith, within, length-map jobs (λ (x : JobCells). x.state)) in
     let is : get_or (states jobs) j job.state ≡ job.state =
     get_or-map (λ (x : JobCells). x.state) jobs j job job.state within ∙ ap (λ (x : JobCells). x.state) (sym c.index-jobs-j.is) in
-    let of : ℕ → List LegState → List LegNews =
-    λ attempt legs. moved_of_job c.args.look.now.names.now c.args.look.now.table.now c.args.told.now attempt (job_site c.args.r j) legs in
+    let of : List LegState → List LegNews =
+    λ legs. moved_of_job c.args.look.now.names.now c.args.look.now.table.now c.args.told.now c.args.run.now (job_site c.args.r j) legs in
     let f : ℕ × JobState → List LegNews =
-    λ x. moved_of_job c.args.look.now.names.now c.args.look.now.table.now c.args.told.now c.args.run.now.attempt (job_site c.args.r x.0) x.1.legs in
+    λ x. moved_of_job c.args.look.now.names.now c.args.look.now.table.now c.args.told.now c.args.run.now (job_site c.args.r x.0) x.1.legs in
     c.in_ok-push_moved_of_job.ensures
-    ∙ ap (λ (attempt : ℕ). c.loop-j.moved.items ++ of attempt c.legs-legs.result.now) c.attempt-attempt.ensures
-    ∙ ap (λ (legs : List LegState). c.loop-j.moved.items ++ of c.args.run.now.attempt legs) c.legs-legs.ensures
+    ∙ ap (λ (legs : List LegState). c.loop-j.moved.items ++ of legs) c.legs-legs.ensures
     ∙ ap (λ (zs : List LegNews). zs ++ f (j, job.state)) c.loop-j.invariant ∙ sym (one_more f j (states jobs) job.state lt is)

@@ -9,5 +9,5 @@ use Rattle.covered_log.proofs.moved.moved_legs.Given as goal
 abbrev pub invariant-loop-j : goal.invariant-loop-j
 invariant-loop-j l =
     l.moved.items
-    ≡ flat_map (λ (x : ℕ × JobState). moved_of_job l.look.names.now l.look.table.now l.told l.run.attempt (job_site l.r x.0) x.1.legs)
+    ≡ flat_map (λ (x : ℕ × JobState). moved_of_job l.look.names.now l.look.table.now l.told l.run (job_site l.r x.0) x.1.legs)
     (placed (take l.j (states l.jobs)))

@@ -13,7 +13,7 @@ loop-l-preserved c =
     let l = c.loop-l.l in
     let leg = c.index-legs-l.result in
     let one : LegSite → LegState → List LegNews =
-    λ p x. moved_leg c.args.look.now.names.now c.args.look.now.table.now c.args.told.now c.args.attempt p x in
+    λ p x. moved_leg c.args.look.now.names.now c.args.look.now.table.now c.args.told.now c.args.run.now p x in
     let f : ℕ × LegState → List LegNews = λ x. one (leg_site c.args.job.run c.args.job.job x.0) x.1 in
     let lt : l < length legs = omega (arith, c.loop-l-test.true) in
     let more : c.push_moved.new.moved.items ≡ c.loop-l.moved.items ++ f (l, leg) =

@@ -13,11 +13,11 @@ returns-clause-page c =
     let from = c.args.from in
     let count = c.in_ok-page.page.count in
     let same = c.kept_runs-runs.ensures.runs in
-    let start = c.start_at-start.ensures.start ∙ ap (λ (rs : List RunState). start_at rs from) same in
+    let start = c.start_at-start.ensures.start in
     let rows = c.as_slice.ensures.value ∙ c.in_ok-page.ensures.rows
     ∙ ap₂ (λ (rs : List RunState) (s : ℕ). rows_from (ready_rows rs) s count) same start in
     let next = c.as_str.ensures.value ∙ sym (gives_ok string_bytes c.in_ok-next.next _ c.in_ok-next.ensures)
-    ∙ ap number_or_null (c.next_run.ensures ∙ ap₂ next_run (c.len-2.ensures.len ∙ ap length same) (ap (λ s. s + count) start)) in
+    ∙ ap number_or_null (c.next_run.ensures ∙ ap (λ (s : ℕ). next_run c.args.table.now (s + count)) start) in
     if_gives string_bytes (IsReadyPage from c.args.limit c.args.table.now) c.page_text.result _ c.page_text.ensures
     (record {
       count = count;

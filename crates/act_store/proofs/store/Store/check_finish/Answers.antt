@@ -162,7 +162,7 @@ returns-in-Ok-clause-recovers g c = λ honest1.
     (search rules) in
     let d1 = c.switch-switched.new.disk in
     subst (λ (v : StoreState g.row.D.Denot). (image : List ℕ) → disk.images d1 image → RecoversTo (table_of v) image) c.self.view_is
-    (settled_recovers s.areas.len (other s.areas.side) Open (s.generation + 1) (at + length bytes - 1) layouts.Second (table_of (as_state s))
+    (settled_recovers s.areas.len (other s.areas.side) Open (s.generation + 1) (at + length bytes - 1) layouts.Third (table_of (as_state s))
     (disk.images d1) f.counted.size
     (finish_settles disk.honest disk.images disk.seen s at bytes f d1 (on_ok_at c.switch-switched.result _ c.in-Ok.is c.switch-switched.ensures.switched) (c.switch-switched.ensures.honest.0 honest1)))
 

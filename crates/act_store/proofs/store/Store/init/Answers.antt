@@ -22,14 +22,14 @@ invariant_of-result g c =
     let base = c.of.result.value in
     let is_empty : base ≡ empty = search rules in
     let same : c.new-table.result ≡ base = search rules in (
-      counted_begun d1 area base 30 1 layouts.Second None false c.new.result.items none
+      counted_begun d1 area base 38 1 layouts.Third None false c.new.result.items none
           (subst (λ (t : TableState). IsSound t) (sym is_empty) empty_is_sound) c.new-table.result same
           c.new-in-Ok.result c.new-in-Ok.ensures size (omega (arith, c.requires.least)),
       (λ _. search (rules, arith)),
       λ honest1.
           let honest = c.make_areas.ensures.honest.0 honest1 in
-          consistent_begun d1 area base 30 1 layouts.Second None false c.new.result.items none disk.images First Closed size
-          (settled_at area First Closed 1 30 layouts.Second empty base (disk.images d1) (sym is_empty)
+          consistent_begun d1 area base 38 1 layouts.Third None false c.new.result.items none disk.images First Closed size
+          (settled_at area First Closed 1 38 layouts.Third empty base (disk.images d1) (sym is_empty)
           (first_settled area (disk.images d1) (c.in-Ok.ensures.made first_head [] honest (sym first_bytes) first_fits))),
       _,
     )

@@ -9,13 +9,13 @@ pub invariant_of-self : goal.invariant_of-self
 invariant_of-self c =
     rw (c.in_err-keep.ensures.err, c.begin.ensures)
     (log_loses c.self.inside.kept c.self.inside.entries c.self.inside.entries c.self.inside.told
-    (Begins c.args.at c.args.runs.now c.args.view.now) c.self.invariant (omega arith))
+    (Begins c.args.at c.args.table.now c.args.view.now) c.self.invariant (omega arith))
 
 pub invariant_of-self-2 : goal.invariant_of-self-2
 invariant_of-self-2 c =
-    let kept : c.keep.new.self ≡ with_text c.self.inside.kept (line_of c.self.inside.entries (Begins c.args.at c.args.runs.now c.args.view.now)) =
+    let kept : c.keep.new.self ≡ with_text c.self.inside.kept (line_of c.self.inside.entries (Begins c.args.at c.args.table.now c.args.view.now)) =
     of_given string_bytes (λ text. c.keep.new.self ≡ with_text c.self.inside.kept text) c.attempt_line-line.result
-    (line_of c.self.inside.entries (Begins c.args.at c.args.runs.now c.args.view.now)) c.attempt_line-line.ensures c.in_ok-keep.ensures.ok in
+    (line_of c.self.inside.entries (Begins c.args.at c.args.table.now c.args.view.now)) c.attempt_line-line.ensures c.in_ok-keep.ensures.ok in
     rw (kept, c.begin.ensures)
     (log_keeps c.self.inside.kept c.self.inside.entries c.self.inside.entries c.self.inside.told
-    (Begins c.args.at c.args.runs.now c.args.view.now) c.self.invariant (omega arith))
+    (Begins c.args.at c.args.table.now c.args.view.now) c.self.invariant (omega arith))

@@ -1,6 +1,6 @@
 use Rattle.std.proofs.Common.{◌≡◌, map, take}
 use Rattle.covered_log.specs.Standings.{standing_of}
-use Rattle.covered_log.proofs.standings.Standings.of.Given as goal
+use Rattle.covered_log.proofs.standings.ToldRuns.of.Given as goal
 
 -- how the runs so far stand
 abbrev pub invariant-loop-run : goal.invariant-loop-run

@@ -4,7 +4,7 @@ use Rattle.std.specs.Prelude.{slice_get}
 use Rattle.table_model.specs.Runs.{RunState, placed}
 use Rattle.covered_log.specs.Lines.{entries_of, with_all}
 use Rattle.covered_log.specs.Standings.{news_of, told_of}
-use Rattle.covered_log.proofs.log.CoveredLog.look.Given as goal
+use Rattle.covered_log.proofs.log.CoveredLog.look_at_all.Given as goal
 
 -- what was told of the runs so far, and how they stand by that; the others stand as they did
 abbrev pub invariant-loop-r : goal.invariant-loop-r

@@ -5,10 +5,9 @@ use Rattle.std.specs.Prelude.{Option, slice_get}
 use Rattle.table_model.specs.Runs.{RunState, placed}
 use Rattle.table_views.proofs.Placing.{one_more, one_value_more}
 use Rattle.covered_log.specs.Lines.{Change, with_all}
-use Rattle.covered_log.specs.Standings.{Standing, news_of, table_news, told_after, told_of}
-use Rattle.covered_log.proofs.NothingLeft.{nothing_left}
+use Rattle.covered_log.specs.Standings.{Standing, news_of, told_of}
 use Rattle.covered_log.proofs.Telling.{all_of_both, next_there, read_next, visited}
-use Rattle.covered_log.proofs.log.CoveredLog.look.Goals as goal
+use Rattle.covered_log.proofs.log.CoveredLog.look_at_all.Goals as goal
 
 pub look_at-requires-clause-known : goal.look_at-requires-clause-known
 look_at-requires-clause-known c =
@@ -69,20 +68,3 @@ returns-clause-told c =
     ∙ ap (λ (n : ℕ). map f (placed (take n runs)) ++ drop n known) all
     ∙ ap (λ (xs : List RunState). map f (placed xs) ++ drop (length runs) known) (take-length runs)
     ∙ ap (λ (xs : List RunState). map f (placed xs) ++ drop (length xs) known) (c.as_slice-runs.ensures.runs ∙ c.kept_runs.ensures.runs)
-
-pub returns-clause-left : goal.returns-clause-left
-returns-clause-left c =
-    let runs = c.as_slice-runs.result.now in
-    let r = c.loop-r.r in
-    let known = c.args.standings.now in
-    let f : ℕ × RunState → Standing =
-    λ x. told_of c.args.look.now.names.now c.args.look.now.table.now (slice_get known x.0) x.0 x.1 in
-    let past : length runs ≤ r = omega (arith, c.loop-r-test.false) in
-    let all : r ≡ length runs = omega (arith, past, c.loop-r.auto.r-end) in
-    let told : c.loop-r.standings ≡ told_after c.args.look.now.names.now c.args.look.now.table.now known =
-    c.loop-r.invariant.told
-    ∙ ap (λ (n : ℕ). map f (placed (take n runs)) ++ drop n known) all
-    ∙ ap (λ (xs : List RunState). map f (placed xs) ++ drop (length runs) known) (take-length runs)
-    ∙ ap (λ (xs : List RunState). map f (placed xs) ++ drop (length xs) known) (c.as_slice-runs.ensures.runs ∙ c.kept_runs.ensures.runs) in
-    ap (table_news c.args.look.now.at c.args.look.now.cancelled.now c.args.look.now.names.now c.args.look.now.table.now) told
-    ∙ nothing_left c.args.look.now.at c.args.look.now.cancelled.now c.args.look.now.names.now c.args.look.now.table.now known
