@@ -1,4 +1,4 @@
-"""The bytes of stores, encoded by docs/FORMATS.md: numbers and texts, the commands of events and runners, tables of the first layout, records, areas."""
+"""The bytes of stores, encoded by docs/FORMATS.md: numbers and texts, the commands of events and runners, tables of the first and the second layout, records, areas."""
 
 from service import BODY
 
@@ -50,9 +50,9 @@ def job(state, *legs):
     return bytes([state]) + number(len(legs)) + b''.join(legs)
 
 
-def run(place, phase, stops, *jobs, attempt=b''):
+def run(place, phase, stops, *jobs, attempt=b'', body=BODY):
     """A run. The first layout has no attempt."""
-    return event(place) + attempt + bytes([phase, stops]) + b''.join(jobs)
+    return event(place, body) + attempt + bytes([phase, stops]) + b''.join(jobs)
 
 
 def ready(place):
@@ -72,8 +72,22 @@ def runner(name, last, command, reply, lease=0, holds=0):
     return text(name) + number(last) + command + bytes([reply]) + number(lease) + number(holds)
 
 
+def keeper(name, last, command, lease, run, holds=0):
+    """A runner of the second layout, whose kept reply is the lease of the first leg of the first job of a run at its first attempt."""
+    return text(name) + number(last) + command + b'\1' + number(lease) + number(run) + number(1) + number(0) + number(0) + number(holds)
+
+
 def table(last_lease, runs=(), runners=()):
     return number(last_lease) + number(len(runs)) + b''.join(runs) + number(len(runners)) + b''.join(runners)
+
+
+# The version of the third layout, which new areas have.
+LATEST = 4
+
+
+def latest(words):
+    """The text of a table of the second layout, in the third, which has no forgotten run."""
+    return words[:4] + bytes(8) + words[4:]
 
 
 def batch(*commands):

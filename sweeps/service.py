@@ -129,9 +129,9 @@ class Service:
 class Forever(Service):
     """A process of `acts serve --forever`. What it prints of its histories is kept as it comes: `settled` has the number of entries of each."""
 
-    def __init__(self, acts, path, turn_over=None, idle=None, view_port=None, **how):
+    def __init__(self, acts, path, turn_over=None, idle=None, view_port=None, keep_runs=None, **how):
         words = ['--forever']
-        for option, value in (('--turn-over', turn_over), ('--idle', idle), ('--view-port', view_port)):
+        for option, value in (('--turn-over', turn_over), ('--idle', idle), ('--view-port', view_port), ('--keep-runs', keep_runs)):
             words += [] if value is None else [option, str(value)]
         super().__init__(acts, path, 1, endless=words, **how)
         self.settled, self.strange, self.news = [], [], threading.Condition()

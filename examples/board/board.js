@@ -161,15 +161,32 @@ async function listRuns(parameters, most = PAGE) {
   await lookAt([...runs.rows.values()].filter(run => run.status !== 'completed').slice(0, AT_ONCE).map(run => run.run), wanted);
 }
 
-// Looks at single runs anew, and takes those out that the filters leave out.
+// A run, or null if it is forgotten.
+async function oneRun(id) {
+  try {
+    return await get(`runs/${id}`);
+  } catch (fault) {
+    if (fault.status === 404) return null;
+    throw fault;
+  }
+}
+
+// Looks at single runs anew, and takes those out that are forgotten, or that the filters leave out.
 async function lookAt(ids, wanted) {
-  for (const run of await Promise.all(ids.map(id => get(`runs/${id}`)))) {
-    if (!fits(run, wanted)) runs.rows.delete(run.run);
+  for (const [at, run] of (await Promise.all(ids.map(oneRun))).entries()) {
+    if (run === null || !fits(run, wanted)) runs.rows.delete(ids[at]);
     else {
       if (!runs.rows.has(run.run) && run.run < runs.newest) runs.older.add(run.run);
       runs.newest = Math.max(runs.newest, run.run);
       runs.rows.set(run.run, run);
     }
+  }
+}
+
+// Takes the runs out that lines say are forgotten.
+function forget(lines) {
+  for (const line of lines.filter(it => it.type === 'forgotten')) {
+    for (const id of runs.rows.keys()) if (id <= line.through) runs.rows.delete(id);
   }
 }
 
@@ -377,6 +394,7 @@ async function followOnce() {
   }
   const lines = await changes({ after: cursor, wait: WAIT }), changed = lines.filter(line => line.run).map(line => line.run);
   cursor = lines.at(-1).cursor;
+  forget(lines);
   const touched = lines.some(line => line.command && !['look', 'fetch'].includes(line.command.name));
   if (touched || view === VIEWS.runners) await refresh(() => view.follow(parameters, [...new Set(changed)]));
   else tell(`as of ${new Date().toLocaleTimeString()}`);

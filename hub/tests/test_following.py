@@ -18,7 +18,7 @@ from acts_hub.service.facts import Facts, facts_of
 from acts_hub.service.hooks import HookPort, Unsupported, reply_of
 from acts_hub.service.index import Index
 from acts_hub.service.mirror import Mirror
-from acts_hub.service.models import Entry, LegLine, RunLine, change_of
+from acts_hub.service.models import Entry, Forgotten, LegLine, RunLine, change_of
 from acts_hub.service.view import ViewPort
 from acts_hub.times import iso, iso_exact, of_iso
 
@@ -298,7 +298,24 @@ def test_lines_of_changes() -> None:
     assert change_of({'after': 3, 'run': 1, 'attempt': 2, 'status': 'queued', 'conclusion': None, 'at': 5}) == RunLine(1, 2, 'queued', None, None, 5)
     assert change_of({'after': 3, 'run': 1, 'attempt': 2, 'job': 'a', 'leg': 0, 'state': 'ready', 'lease': None, 'runner': None, 'at': 5}) == LegLine(
         1, 2, 'a', 0, 'ready', None, None, 5)
+    assert change_of({'after': 3, 'type': 'forgotten', 'through': 2, 'at': 5}) == Forgotten(2, 5)
     assert change_of({'else': 1}) is None
+
+
+@pytest.mark.quick
+def test_forgotten_runs_are_gone_and_what_is_kept_of_them_stays(tmp_path: pathlib.Path) -> None:
+    async def test() -> None:
+        async with StandIn() as stand:
+            for run in 1, 2, 3:
+                stand.add(run)
+            async with mirrored(stand, tmp_path) as mirror:
+                await until(lambda: sorted(mirror.runs) == [1, 2, 3] and all(mirror.kept.of(run) for run in (1, 2, 3)))
+                del stand.rows[1], stand.rows[2]
+                # runs up to 3 were asked for, of which the third had not completed
+                stand.say({'entry': 1, 'command': {'name': 'forget', 'run': 3}, 'reply': 'forgotten 2', 'at': 1000}, {'after': 1, 'type': 'forgotten', 'through': 2, 'at': 1000})
+                await until(lambda: 1 not in mirror.runs)
+                assert sorted(mirror.runs) == [3] and all(mirror.kept.of(run) for run in (1, 2, 3))
+    play(test())
 
 
 @pytest.mark.quick

@@ -10,7 +10,7 @@ It folds the lines over a table of lists and dictionaries, and finds everything 
 index, no limit of memory. `hook` and `lines` play SCRIPT first, and then print what a session over the table writes for BYTES and the end of
 its input; AREA is ignored. It is written from the two pages, and for heads from the grammar of `httparse`. So where the program and this
 differ, one of them does not do what the pages say. It needs Python 3.9 or later and nothing else. Left out: an area that is full (47), for
-which no script is long enough, and more than 999,999,999 leases. Case folding is that of this Python's Unicode, which may be older than the
+which no script is long enough, and more than 999,999,999 leases or runs. Case folding is that of this Python's Unicode, which may be older than the
 program's.
 """
 
@@ -26,10 +26,13 @@ CONDITIONS = {'success()': 'success', 'true': 'success', 'failure()': 'failure',
 FORMS = {'delivery': rb'[A-Za-z0-9-]{1,64}', 'event': rb'[a-z0-9_]{1,64}', 'runner': rb'[A-Za-z0-9_.-]{1,64}', 'number': rb'[1-9][0-9]{0,8}',
          'labels': rb'[!-+\--~]{1,64}(?:,[!-+\--~]{1,64}){0,15}', 'result': rb'success|failure|cancelled'}
 COMMANDS = {'claim': ('runner', 'number', 'labels'), 'done': ('runner', 'number', 'number', 'result'), 'beat': ('runner', 'number'),
-            'cancel': ('number',), 'lost': ('runner',), 'look': ('number',), 'fetch': ('number',), 'rerun': ('number', 'number')}
+            'cancel': ('number',), 'lost': ('runner',), 'look': ('number',), 'fetch': ('number',), 'rerun': ('number', 'number'),
+            'forget': ('number',), 'discharge': ('runner',)}
 ENDED = ('success', 'failure', 'cancelled')
 MAX_SCRIPT_BYTES, MAX_BODY_BYTES, MAX_LINE_BYTES, SLICE = 1 << 20, 65_536, 512, 4096
 MAX_ENTRIES, MAX_RUNS, MAX_ATTEMPTS, MAX_LINES = 100_000, 100_000, 1000, 1024
+# How many deliveries of forgotten runs are kept.
+KEPT_DELIVERIES = 10_000
 # Refusals of commands that end a session.
 ENDING = (46, 47, 48, 50, 51, 52, 57, 60)
 MAX_HEAD_BYTES, MAX_FIELDS, MAX_REQUESTS = 8192, 64, 64
@@ -37,7 +40,8 @@ TOKEN, TARGET, VALUE = (re.compile(rb'[%s]*' % them) for them in (rb"!#$%&'*+\-.
 PATHS = ((rb'/runs/(%s)' % FORMS['number'], b'GET', 200, 'look'), (rb'/runs/(%s)/body' % FORMS['number'], b'GET', 200, 'fetch'),
          (rb'/runs/(%s)/cancel' % FORMS['number'], b'POST', 202, 'cancel'),
          (rb'/runs/(%s)/attempts/(%s)' % (FORMS['number'], FORMS['number']), b'POST', 201, 'rerun'),
-         (rb'/runners/(%s)/lost' % FORMS['runner'], b'POST', 202, 'lost'))
+         (rb'/runs/(%s)/forget' % FORMS['number'], b'POST', 202, 'forget'), (rb'/runners/(%s)/lost' % FORMS['runner'], b'POST', 202, 'lost'),
+         (rb'/runners/(%s)/forget' % FORMS['runner'], b'POST', 202, 'discharge'))
 PHRASES = {200: 'OK', 201: 'Created', 202: 'Accepted', 400: 'Bad Request', 404: 'Not Found', 405: 'Method Not Allowed', 409: 'Conflict',
            411: 'Length Required', 413: 'Payload Too Large', 422: 'Unprocessable Entity', 503: 'Service Unavailable'}
 
@@ -357,6 +361,10 @@ class Event:
         self.repo, self.path, self.workflow = value['repo'], value['path'], Workflow(value['workflow'])
         self.workflow.plan()
 
+    def source(self):
+        """The repository and the path, which name its workflow."""
+        return self.repo, self.path
+
     def sent_value(self, path):
         """The scalar that the sender gives a path, or None."""
         if path[0] not in CONTEXTS[:3]:
@@ -483,15 +491,18 @@ def stop_leg(leg):
 
 
 class Runner:
-    """The last number, command and reply of a runner, and what it holds: a lease, and its run, job and leg."""
+    """The last number, command and reply of a runner, the run of that reply if it is a lease, and what it holds: a lease, and its run, job and leg."""
 
     def __init__(self):
-        self.number, self.command, self.reply, self.holds, self.kept_lease = 0, None, None, None, False
+        self.number, self.command, self.reply, self.holds, self.kept_lease = 0, None, None, None, None
 
 
 class Table:
+    """The runs that are not forgotten, and the runners. Of those that are forgotten it knows how many, how many of each workflow, and the last deliveries."""
+
     def __init__(self):
         self.runs, self.runners, self.last_lease = [], {}, 0
+        self.forgotten, self.counts, self.deliveries = 0, {}, []
 
     # Concurrency groups.
 
@@ -577,8 +588,16 @@ class Table:
     # Commands. Each answers the reply.
 
     def run(self, place):
-        need(place <= len(self.runs), 40)
-        return self.runs[place - 1]
+        need(self.forgotten < place <= self.last(), 40)
+        return self.runs[place - self.forgotten - 1]
+
+    def known(self, place):
+        """The run with this id, or None."""
+        return self.runs[place - self.forgotten - 1] if self.forgotten < place <= self.last() else None
+
+    def last(self):
+        """The id of the last run."""
+        return self.forgotten + len(self.runs)
 
     def begin_run(self, run):
         run.begin()
@@ -589,9 +608,11 @@ class Table:
         for run in self.runs:
             if run.event.delivery == event.delivery:
                 return f'created {run.place}'
+        if event.delivery in self.deliveries:
+            return f'created {self.forgotten - len(self.deliveries) + 1 + self.deliveries.index(event.delivery)}'
         need(len(self.runs) < MAX_RUNS, 48)
-        number = 1 + sum((run.event.repo, run.event.path) == (event.repo, event.path) for run in self.runs)
-        run = Run(len(self.runs) + 1, number, event)
+        number = 1 + self.counts.get(event.source(), 0) + sum(run.event.source() == event.source() for run in self.runs)
+        run = Run(self.last() + 1, number, event)
         run.phase, run.jobs, run.group = 'ended', [], None
         self.runs.append(run)
         self.begin_run(run)
@@ -634,7 +655,7 @@ class Table:
             return kept
         need(runner.holds is None, 42)
         found = self.fitting(labels)
-        runner.kept_lease = found is not None
+        runner.kept_lease = found[0] if found else None
         if found is None:
             return self.keep(name, runner, number, command, 'nothing')
         run, job, place = found
@@ -651,7 +672,7 @@ class Table:
             return kept
         need(runner.holds and runner.holds[0] == lease, 44)
         _, run, job, place = runner.holds
-        runner.holds, runner.kept_lease = None, False
+        runner.holds, runner.kept_lease = None, None
         run.end_leg(job, place, result.decode())
         return self.keep(name, runner, number, command, 'ok')
 
@@ -696,11 +717,30 @@ class Table:
             self.begin_run(run)
         return f'again {place} {attempt}'
 
+    def forget(self, place):
+        """The first runs that have completed, up to this id, go. A kept reply that is the lease of one is nothing from then on."""
+        while self.runs and self.runs[0].phase == 'ended' and self.runs[0].place <= place:
+            run = self.runs.pop(0)
+            self.forgotten = run.place
+            self.counts[run.event.source()] = self.counts.get(run.event.source(), 0) + 1
+            self.deliveries = [*self.deliveries, run.event.delivery][-KEPT_DELIVERIES:]
+            for runner in self.runners.values():
+                if runner.kept_lease is run:
+                    runner.reply, runner.kept_lease = 'nothing', None
+        return f'forgotten {self.forgotten}'
+
+    def discharge(self, name):
+        need(name in self.runners, 45)
+        need(self.runners[name].holds is None, 42)
+        del self.runners[name]
+        return 'ok'
+
     def length(self):
         """How many bytes the table takes in a checkpoint."""
         runs = sum(4 + len(run.event.delivery) + 4 + len(run.event.name) + 4 + len(run.event.body) + 6
                    + sum(5 + 5 * len(state.legs) for state in run.jobs) for run in self.runs)
-        return 12 + runs + sum(map(runner_length, self.runners.items()))
+        forgotten = sum(12 + len(repo.encode()) + len(path.encode()) for repo, path in self.counts) + sum(4 + len(it) for it in self.deliveries)
+        return 20 + forgotten + runs + sum(map(runner_length, self.runners.items()))
 
 
 def runner_length(entry):
@@ -883,7 +923,7 @@ class Head:
             if found := re.fullmatch(path, self.target):
                 if self.method != method:
                     raise Answered(405, 73, False, method.decode())
-                return status, word, list(found.groups()) if word == 'lost' else list(map(int, found.groups()))
+                return status, word, list(found.groups()) if word in ('lost', 'discharge') else list(map(int, found.groups()))
         raise Answered(404, 72, False)
 
 

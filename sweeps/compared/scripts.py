@@ -6,7 +6,7 @@
     sweeps/compared/scripts.py SEED RUNS --groups GROUPS  a script of so many runs in so many groups
 
 A script is made line by line together with the plain model, so most runners ask in turn for what there is: claims and reports with the next
-number, leases that are held, runs that have ended. Some lines are out of turn, repeated or no commands. Most workflows have no fault; in the
+number, leases that are held, runs that have ended. Runs are forgotten, and runners discharged. Some lines are out of turn, repeated or no commands. Most workflows have no fault; in the
 others a member or some bytes were changed. The store's own lines (`commit`, `begin`, `slice`, `finish`) are among the others.
 
 With `--groups` all runs and legs share so many concurrency groups, whose names come from texts, `vars`, matrices, results of needs and attempts, in
@@ -179,7 +179,7 @@ class Script:
         self.table = self.store.table
 
     def run(self):
-        return self.dice.randint(1, max(1, len(self.table.runs) + chance(self.dice, 0.05)))
+        return self.dice.randint(max(1, self.table.forgotten), max(1, self.table.last() + chance(self.dice, 0.05)))
 
     def number(self, name):
         runner = self.table.runners.get(name.encode())
@@ -217,22 +217,26 @@ class Script:
             return f'lost {name}'.encode()
         if kind < 0.92:
             run = self.run()
-            attempt = self.table.runs[run - 1].attempt if run <= len(self.table.runs) else 1
-            return f'rerun {run} {attempt + dice.choice((1, 1, 1, 0, 2))}'.encode()
+            found = self.table.known(run)
+            return f'rerun {run} {(found.attempt if found else 1) + dice.choice((1, 1, 1, 0, 2))}'.encode()
         if kind < 0.93:
             return f'fetch {self.run()}'.encode()
+        if kind < 0.94:
+            return f'forget {self.run()}'.encode()
+        if kind < 0.945:
+            return f'discharge {name}'.encode()
         if kind < 0.96 and self.lines:
             return dice.choice(self.lines)
         if kind < 0.99:
             return self.step()
-        return dice.choice((b'look', b'claim r1  linux', b'done r1 1 1 skipped', b'Commit', b' ', b'look 01', b'admit d_1 push {}', b'\xff', b'claim r1 1 a,,b'))
+        return dice.choice((b'look', b'claim r1  linux', b'done r1 1 1 skipped', b'Commit', b' ', b'look 01', b'admit d_1 push {}', b'\xff', b'forget 0', b'discharge r_', b'claim r1 1 a,,b'))
 
     def made(self, count):
         for _ in range(count):
             line = self.line()
             self.store.answer(line)
             self.lines.append(line)
-        self.lines += [b'look %d' % place for place in range(1, 1 + len(self.table.runs))]
+        self.lines += [b'look %d' % place for place in range(1, 1 + self.table.last())]
         return b''.join(line + b'\n' for line in self.lines)
 
 

@@ -34,11 +34,11 @@ class Reading:
             return 'done', self.text(), self.number(), self.number(), RESULTS[self.number(1)]
         if word == 4:
             return 'beat', self.text(), self.number()
-        if word == 6:
-            return 'lost', self.text()
+        if word in (6, 13):
+            return {6: 'lost', 13: 'discharge'}[word], self.text()
         if word == 9:
             return 'rerun', self.number(), self.number()
-        return {5: 'cancel', 7: 'look', 8: 'fetch'}[word], self.number()
+        return {5: 'cancel', 7: 'look', 8: 'fetch', 12: 'forget'}[word], self.number()
 
 
 def generation(area):

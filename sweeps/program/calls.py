@@ -8,14 +8,14 @@ import shutil
 import subprocess
 
 from checking import expect, opened, served, stopped
-from encoded import area, file, look, number, record, text
+from encoded import LATEST, area, file, latest, look, number, record, text
 from files import AREA, EMPTY, READY, write as write_file
 from sizes import generation
 
 HERE = os.path.dirname(os.path.abspath(__file__))
 OPEN, CLOSED = b'\xa5', b'\0'
 # The closed gate of the first record of a new store.
-FIRST_GATE = 30
+FIRST_GATE = 38
 BEAT = b'BEAT nobody 1\n'
 SLICE, LARGE, BODY_BYTES, CHECKPOINTS, MOST_ASKED = 4096, 32_768, 9_000, 3, 9_000
 SECONDS = 60
@@ -67,7 +67,7 @@ def expect_read(found, what):
 
 def made_with(length):
     """The calls that make a store of the empty table, with areas of this length."""
-    front = area(length, 1, EMPTY, layout=2)[1:FIRST_GATE + 1]
+    front = area(length, 1, latest(EMPTY), layout=LATEST)[1:FIRST_GATE + 1]
     return ['advice', 'folder', wrote(0, CLOSED + front), wrote(length, CLOSED), wrote(2 * length - 1, CLOSED), 'sync', wrote(0, OPEN), 'sync']
 
 
@@ -91,7 +91,7 @@ def looked(acts, folder):
     if left_out():
         return left_out()
     path = f'{folder}/store'
-    write_file(path, file(EMPTY, length=AREA, layout=2))
+    write_file(path, file(latest(EMPTY), length=AREA, layout=LATEST))
     noted = Noted(folder, path)
     for words in ('show', 'runners', 'queue'):
         expect_read(noted.ran(acts, words, path), words)
@@ -177,7 +177,7 @@ class Areas:
         calls = self.synced_gate(other, calls, 'a checkpoint')
         self.finished += 1
         end = 17 + int.from_bytes(self.put[9:17], 'big')
-        expect(self.put[:9] == b'\2' + (1 + self.finished).to_bytes(8, 'big') and end < len(self.put) and self.put[-1:] == CLOSED, 'a checkpoint begins with', self.put[:17])
+        expect(self.put[:9] == bytes([LATEST]) + (1 + self.finished).to_bytes(8, 'big') and end < len(self.put) and self.put[-1:] == CLOSED, 'a checkpoint begins with', self.put[:17])
         self.active, self.gate, self.is_other_open, self.put = other, len(self.put), True, None
         return calls
 

@@ -32,13 +32,15 @@ SERVE = 'serve FILE --hook-port {} --runner-port {} --sessions {}'
 # The words after the program's name, and what is printed over the first script. A FILE can't be opened.
 WELL = (('play', FIRST_ANSWERS), ('explain 15', EXPLAINED))
 NO_FILE = ('init FILE 4096', 'init FILE 1073741824', 'grow FILE NEW 4096', 'grow FILE NEW 1073741824', 'show FILE', 'show FILE 999999999 --json', 'runners FILE', 'queue --json FILE',
-           SERVE.format(65535, 1, 32), SERVE.format(8080, 8081, 1) + ' --rounds 18446744073709551615')
+           SERVE.format(65535, 1, 32), SERVE.format(8080, 8081, 1) + ' --rounds 18446744073709551615',
+           *(SERVE.format(8080, 8081, 1) + f' --forever --keep-runs {runs}' for runs in (1, 50000)))
 # Command lines that the program does not have.
 USAGE = ('', 'serve', 'play script', 'check workflow', 'lint workflow', '--verbose play', 'explain', 'explain 17 18', 'explain 9', 'explain 017',
          'explain refused', b'\xff', b'play \xc3', b'init stor\xe9 4096', 'init FILE 4095', 'init FILE 1073741825', 'init FILE', 'grow', 'grow FILE 4096', 'grow FILE NEW', 'grow FILE NEW 4095', 'grow FILE NEW 1073741825', 'grow FILE NEW 4096 1',
          'show', 'show FILE 0', 'show FILE 1000000000', 'show FILE 01', 'show FILE +1', 'show FILE 1 2',
          'runners', 'runners FILE r1', 'queue', 'queue FILE --text', 'serve FILE --hook-port 8080', SERVE.format(0, 8081, 1),
-         SERVE.format(8080, 65536, 1), SERVE.format(8080, 8081, 0), SERVE.format(8080, 8081, 33), SERVE.format(8080, 8081, 1) + ' --rounds 0')
+         SERVE.format(8080, 65536, 1), SERVE.format(8080, 8081, 0), SERVE.format(8080, 8081, 33), SERVE.format(8080, 8081, 1) + ' --rounds 0',
+         SERVE.format(8080, 8081, 1) + ' --keep-runs 10', *(SERVE.format(8080, 8081, 1) + f' --forever --keep-runs {runs}' for runs in ('0', '50001', '1.5', '')))
 # A command and its input, the status, standard output, and the number on standard error.
 INPUTS = (('check', MATRIX, 0, MATRIX_LINES, None), ('check', '[', 1, '', 10), ('check', NO_LEG, 1, '', 22),
           ('lint', MATRIX, 0, '', None), ('lint', FAULTY, 1, FAULTS, None))

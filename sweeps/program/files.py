@@ -4,7 +4,7 @@ import socket
 
 from checking import expect, served
 from command_lines import BUILD, is_refused, ran
-from encoded import area, batch, claim, file, job, leg, look, number, rerun, run, table, text
+from encoded import LATEST, area, batch, claim, file, job, latest, leg, look, number, rerun, run, table, text
 
 AREA = 4096
 EMPTY = table(0)
@@ -73,7 +73,7 @@ def made(acts, folder):
     path = f'{folder}/store'
     expect(ran(acts, ['init', path, str(AREA)]) == (0, 'made\n', ''), 'no store is made')
     new = read(path)
-    expect(new == file(EMPTY, layout=2), 'a new store has other bytes')
+    expect(new == file(latest(EMPTY), layout=LATEST), 'a new store has other bytes')
     for before in (new, b'x', new + bytes(1)):
         write(path, before)
         expect(ran(acts, ['init', path, str(AREA)]) == is_refused(55) and read(path) == before, 'a store is made in a file that is not empty')

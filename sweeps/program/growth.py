@@ -4,7 +4,7 @@ import os
 
 from checking import expect, served, stopped
 from command_lines import is_refused, ran
-from encoded import admit, area, claim, file, job, leg, number, record, run, table
+from encoded import LATEST, admit, area, claim, file, job, latest, leg, number, record, run, table
 from files import AFTERWARDS, AREA, EMPTY, PLAYED_ON, expect_answers, expect_shown, held, holders, play_on, read, running_runs, write
 
 SMALL, LARGE, LONG = 16_384, 65_536, 1_000
@@ -80,14 +80,14 @@ def with_records(layout):
 
 
 def copied(acts, folder):
-    """What the active area stands for is copied: its text and the records behind it, of either layout, and nothing of the other area."""
+    """What the active area stands for is copied: its text and the records behind it, of each layout, and nothing of the other area."""
     path, new = f'{folder}/store', f'{folder}/larger'
     after = table(1, [run(1, 1, 0, job(1, leg(3, 1)), attempt=number(1))], [held('r1', 1, claim('r1', 1), 1, (1, 1), 1)])
     for layout, size in ((1, AREA), (1, 2 * AREA), (2, AREA), (2, 2 * AREA)):
         before = with_records(layout)
         write(path, before)
         expect(grow(acts, path, new, size) == GROWN, 'a store of layout', layout, 'is not copied')
-        expect(read(new) == file(after, length=size, layout=2), 'the copy of a store of layout', layout, 'has other bytes')
+        expect(read(new) == file(latest(after), length=size, layout=LATEST), 'the copy of a store of layout', layout, 'has other bytes')
         expect(read(path) == before, 'a store is not as it was')
         os.remove(new)
     write(path, file(table(3, running_runs(), holders()), layout=2))

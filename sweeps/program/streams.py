@@ -1,5 +1,6 @@
 """The streams of clients: what comes at once or in halves, the ends of sessions, and clients that are silent, reset their stream or stay; and a device that fails."""
 
+import json
 import resource
 import socket
 import time
@@ -14,6 +15,7 @@ CLAIM, LEASED = b'CLAIM r1 1 linux\n', 'lease 1 1 build 0 {}'
 DONE = b'DONE r1 2 1 success\n'
 COMPLETED = 'run 1 1 completed success build:success(success)'
 LOOK = served.look(1)
+RUNS = b'GET /runs HTTP/1.1\r\n\r\n'
 HEALTH, WELL = b'GET /healthz HTTP/1.1\r\n\r\n', (200, 'ok')
 SECONDS = 60
 
@@ -47,6 +49,47 @@ def over_histories(acts, folder):
     expect(service.settled[:2] == [2, 2], 'histories of two commands turn over with', service.settled)
     stopped(service)
     return 'two sessions over three histories'
+
+
+def keeps_runs(acts, folder):
+    """With `--keep-runs` completed runs but the last ones are forgotten where a history turns over, and at a start. A run that goes on keeps those behind it."""
+    path, views = f'{folder}/store', served.free_port()
+    served.init(acts, path, AREA)
+
+    def begun(keep):
+        service = served.Forever(acts, path, turn_over=4, keep_runs=keep, view_port=views)
+        expect(service.ready, 'a service is not ready')
+        return service
+
+    def post(service, run, then=True):
+        hook = service.hook()
+        expect_answers(hook, ((served.event(f'd{run}'), f'created {run}'), *(((f'POST /runs/{run}/cancel HTTP/1.1\r\n\r\n'.encode(), 'ok'),) if then else ())))
+        hook.close()
+
+    def expect_left(*runs):
+        """The runs that are left, the newest first."""
+        for _ in range(SECONDS * 20):
+            found = [row['run'] for row in json.loads(served.Hook(views).ask(RUNS)[1])['runs']]
+            if found == list(runs):
+                return
+            time.sleep(0.05)
+        expect(False, 'the runs that are left are', found, 'and not', runs)
+
+    service = begun(2)
+    for run in 1, 2, 3, 4:
+        post(service, run)
+    expect(service.wait_settled(2), 'histories of four commands do not turn over')
+    expect_left(4, 3)
+    post(service, 5, then=False)
+    stopped(service)
+    service = begun(1)
+    expect_left(5)
+    post(service, 6)
+    stopped(service)
+    service = begun(1)
+    expect_left(6, 5)
+    stopped(service)
+    return 'two of four runs are forgotten, two more at the next start, and none behind one that goes on'
 
 
 def reset_after_an_answer(client, asked):
@@ -365,4 +408,4 @@ def failed_stream(acts, folder):
     return 'three rounds, of which one stream fails'
 
 
-CHECKS = silent, over_histories, resets, idle, every_slot, together, lost, lost_claim, full_sockets, gives_back, last_answers, stays, failed_stream
+CHECKS = silent, over_histories, keeps_runs, resets, idle, every_slot, together, lost, lost_claim, full_sockets, gives_back, last_answers, stays, failed_stream

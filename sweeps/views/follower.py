@@ -69,7 +69,10 @@ class Known:
         """Takes a line of `/changes`, which is not the cursor's."""
         if 'entry' in line:
             return
-        if 'leg' in line:
+        if line.get('type') == 'forgotten':
+            self.rows = {run: row for run, row in self.rows.items() if run > line['through']}
+            self.legs = {key: leg for key, leg in self.legs.items() if key[0] > line['through']}
+        elif 'leg' in line:
             self.legs[line['run'], line['job'], line['leg']] = Leg(line['attempt'], line['state'], line['lease'], line['runner'])
         elif 'delivery' in line:
             self._begin({name: value for name, value in line.items() if name not in ('after', 'at')})

@@ -76,7 +76,7 @@ class Play:
         if word in ('claim', 'done', 'beat'):
             return 'runner', ' '.join([word.upper(), *texts]).encode() + b'\n'
         path = {'look': 'GET /runs/{}', 'fetch': 'GET /runs/{}/body', 'cancel': 'POST /runs/{}/cancel', 'rerun': 'POST /runs/{}/attempts/{}',
-                'lost': 'POST /runners/{}/lost'}[word].format(*texts)
+                'lost': 'POST /runners/{}/lost', 'forget': 'POST /runs/{}/forget', 'discharge': 'POST /runners/{}/forget'}[word].format(*texts)
         return 'hook', f'{path} HTTP/1.1\r\n\r\n'.encode()
 
     def ask(self, port, what):
@@ -138,7 +138,7 @@ class Play:
         return self.dice.choice(values) if self.dice.random() < 0.5 else None
 
     def place(self):
-        return self.dice.randint(1, len(self.table.runs) + 2)
+        return self.dice.randint(1, self.table.last() + 2)
 
     def look_at_runs(self):
         names = ('status', 'conclusion', 'repo', 'path', 'event', 'ref', 'group')
@@ -167,10 +167,11 @@ class Play:
         place = self.place()
         target = f'/runs/{place}/body'
         got, fields, body = self.service.get(target)
-        if place > len(self.table.runs):
+        run = self.table.known(place)
+        if run is None:
             self.same(target, (got, json.loads(body)['code']), (404, 'unknown_run'))
         else:
-            self.same(target, (got, fields.get('Content-Type'), body), (200, 'application/json', self.table.runs[place - 1].event.body))
+            self.same(target, (got, fields.get('Content-Type'), body), (200, 'application/json', run.event.body))
 
     def look_at_queue(self):
         first, limit = self.maybe(self.place()), self.maybe(1, 3, 100)
@@ -201,7 +202,8 @@ class Play:
         wanted = {name: str(value) for name, value in shown.metrics(plain, self.table, self.refused).items()}
         wanted['acts_entries_total'] = str(len(self.entries))
         ours = {name: value for name, value in values.items()
-                if name.startswith(('acts_runs', 'acts_legs', 'acts_ready', 'acts_runners', 'acts_leases', 'acts_refusals', 'acts_entries'))}
+                if name.startswith(('acts_runs', 'acts_legs', 'acts_ready', 'acts_runners', 'acts_leases', 'acts_refusals', 'acts_entries', 'acts_forgotten_runs',
+                                   'acts_first_open_run'))}
         self.same('/metrics', ours, wanted)
 
     def look_at_health(self):
@@ -242,7 +244,7 @@ class Play:
             event = fields[0]
             return {'name': word, 'delivery': event.delivery.decode(), 'event': event.name.decode(), 'repository': event.repo, 'path': event.path}
         names = {'claim': ('runner', 'number', 'labels'), 'done': ('runner', 'number', 'lease', 'result'), 'beat': ('runner', 'lease'),
-                 'lost': ('runner',), 'rerun': ('run', 'attempt')}.get(word, ('run',))
+                 'lost': ('runner',), 'discharge': ('runner',), 'rerun': ('run', 'attempt')}.get(word, ('run',))
         made = {'name': word, **dict(zip(names, texts))}
         if word == 'claim':
             made['labels'] = made['labels'].split(',')

@@ -46,7 +46,7 @@ def row(run):
 
 def runs(table, before=None, limit=100, **wanted):
     """A page of `/runs`."""
-    top = len(table.runs) if before is None else min(before - 1, len(table.runs))
+    top = len(table.runs) if before is None else max(0, min(before - 1 - table.forgotten, len(table.runs)))
     names = {'repo': 'repository'}
     if 'group' in wanted:
         wanted['group'] = wanted['group'].casefold()
@@ -56,7 +56,7 @@ def runs(table, before=None, limit=100, **wanted):
         if all(made[names.get(name, name)] == value for name, value in wanted.items()):
             rows.append(made)
         looked += 1
-    return text({'runs': rows, 'looked': looked, 'before': top - looked + 1 if looked < top else None})
+    return text({'runs': rows, 'looked': looked, 'before': table.forgotten + top - looked + 1 if looked < top else None})
 
 
 def for_group(group):
@@ -113,9 +113,9 @@ def job_row(plain, table, run, job, names):
 
 def one_run(plain, table, place, first, names):
     """`/runs/RUN`, or None."""
-    if place > len(table.runs):
+    run = table.known(place)
+    if run is None:
         return None
-    run = table.runs[place - 1]
     jobs, legs, looked = [], 0, min(first, len(run.jobs))
     while looked < len(run.jobs) and legs < FULL:
         jobs.append(job_row(plain, table, run, looked, names))
@@ -127,12 +127,12 @@ def one_run(plain, table, place, first, names):
 
 def by_runs(name, table, rows_of, first, limit):
     """A page that goes run by run."""
-    rows, looked, start = [], 0, first - 1
+    rows, looked, start = [], 0, max(0, first - 1 - table.forgotten)
     left = max(0, len(table.runs) - start)
     while looked < min(left, LOOKED) and len(rows) < limit:
         rows += rows_of(table.runs[start + looked])
         looked += 1
-    return text({name: rows, 'looked': looked, 'from': first + looked if looked < left else None})
+    return text({name: rows, 'looked': looked, 'from': table.forgotten + start + looked + 1 if looked < left else None})
 
 
 def legs_of(run):
@@ -209,6 +209,8 @@ def metrics(plain, table, refused):
     made['acts_ready_legs{labels="other"}'] = sum(list(lists.values())[50:])
     made['acts_runners'] = len(table.runners)
     made['acts_leases'] = sum(1 for it in table.runners.values() if it.holds)
+    made['acts_forgotten_runs'] = table.forgotten
+    made['acts_first_open_run'] = next((run.place for run in table.runs if run.phase != 'ended'), 0)
     for number in ENTRIES_REFUSED:
         if refused.get(number):
             made[f'acts_refusals_total{{number="{number}"}}'] = refused[number]
@@ -246,16 +248,25 @@ def next_in_group(table, run):
 
 
 class Told:
-    """What the lines of `/changes` have told of each run: its attempt, status and conclusion, and the state and lease of its legs."""
+    """What the lines of `/changes` have told of each run: its attempt, status and conclusion, and the state and lease of its legs; and which are forgotten."""
 
     def __init__(self):
-        self.runs = {}
+        self.runs, self.forgotten = {}, 0
+
+    def forget(self, table):
+        """What is told of runs that a table has forgotten."""
+        if table.forgotten == self.forgotten:
+            return []
+        self.forgotten = table.forgotten
+        self.runs = {place: told for place, told in self.runs.items() if place > table.forgotten}
+        return [{'type': 'forgotten', 'through': table.forgotten}]
 
     def news(self, table, names, cancelled=()):
-        """What is told of a table, without place and time: each run that begins an attempt or is not as it was told; that arrivals have displaced it since, where
-        no command of the same commit has cancelled it; and then its legs that are not as they were told."""
+        """What is told of a table, without place and time: which runs it has forgotten; each run that begins an attempt or is not as it was told; that arrivals have
+        displaced it since, where no command of the same commit has cancelled it; and then its legs that are not as they were told."""
         displaced, table.displaced = {place: attempt for place, attempt in sorted(table.displaced) if place not in cancelled}, set()
-        return [line for run in table.runs for line in self.news_of(table, run, names, displaced.get(run.place) == run.attempt)]
+        gone = self.forget(table)
+        return gone + [line for run in table.runs for line in self.news_of(table, run, names, displaced.get(run.place) == run.attempt)]
 
     def news_of(self, table, run, names, is_displaced):
         attempt, *state = self.runs.get(run.place, (0,))

@@ -13,7 +13,7 @@ from .facts import Facts
 from .http import Away
 from .leases import Leases
 from .looks import Looks, kept_of
-from .models import Change, Entry, LegLine, Row, RunLine
+from .models import Change, Entry, Forgotten, LegLine, Row, RunLine
 from .whole import ENDS
 
 if TYPE_CHECKING:
@@ -48,6 +48,8 @@ class Changes:
                 self._entry(line, at)
             elif isinstance(line, RunLine):
                 self._run_line(line, at)
+            elif isinstance(line, Forgotten):
+                self._forgotten(line)
             else:
                 self._leg_line(line, at)
         is_due = bool(self._changed) or (bool(lines) and time.monotonic() - self._wrote > CURSOR_SECONDS)
@@ -125,10 +127,6 @@ class Changes:
             self._ended(command['lease'], command['result'], at)
         elif name == 'lost' and reply[0] == 'ok' and command['runner'] in self.leases.held:
             self._ended(self.leases.held[command['runner']], None, at)
-        elif name == 'forget' and reply[0] != 'refused' and isinstance(command.get('run'), int):
-            self._batch.forget(command['run'])
-            self.attempts.pop(command['run'], None)
-            self._changed.add(command['run'])
         elif reply[0] == 'again' and len(reply) >= 3:
             self._again(int(reply[1]), int(reply[2]), at)
 
@@ -224,6 +222,13 @@ class Changes:
         if line.state in ENDS and note.ended_at is None:
             note.ended_at = at
         note.state = line.state if line.state in ENDS else None
+
+    def _forgotten(self, line: Forgotten) -> None:
+        """The service has these runs no more. What is kept of them stays till its days are over."""
+        for run in [run for run in self.mirror.runs if run <= line.through]:
+            self.mirror.gone(run)
+            self.attempts.pop(run, None)
+            self._changed.add(run)
 
     def _touch(self, run: int, at: int | None, is_end: bool = False) -> None:
         """A run has changed: it is looked at soon, unless lines of its legs say all."""

@@ -208,7 +208,15 @@ class LegLine:
     at: int | None
 
 
-Change: TypeAlias = Entry | RunLine | LegLine
+@dataclass(frozen=True, slots=True)
+class Forgotten:
+    """The runs with ids up to this one are forgotten."""
+
+    through: int
+    at: int | None
+
+
+Change: TypeAlias = Entry | RunLine | LegLine | Forgotten
 
 
 def change_of(json: Json) -> Change | None:
@@ -216,6 +224,8 @@ def change_of(json: Json) -> Change | None:
     at = json.get('at')
     if 'command' in json:
         return Entry(json['entry'], json['command'], tuple(json['reply'].split(' ')), at)
+    if json.get('type') == 'forgotten':
+        return Forgotten(json['through'], at)
     if 'job' in json and 'leg' in json:
         return LegLine(json['run'], json['attempt'], json['job'], json['leg'], json['state'], json.get('lease'), json.get('runner'), at)
     if 'run' in json and 'status' in json:
