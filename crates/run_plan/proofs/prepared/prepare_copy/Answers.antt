@@ -15,7 +15,8 @@ pub invariant_of-result : goal.invariant_of-result
 invariant_of-result c =
     let body = c.args.body.now in
     let given = c.in_ok-contexts.ensures.gives in
-    rw (c.in_ok-body.ensures.ok, c.in_ok-workflow.ensures.ok, c.in_ok-bytes.ensures.ok)
+    let copied = c.in_ok-bytes.ensures.items_if_clones_equal (λ x y same. same) in
+    rw (c.in_ok-body.ensures.ok, c.in_ok-workflow.ensures.ok, copied)
     (no_fault (faults_of body) (plan_of body) _ given, c.in_ok-contexts.ensures.contexts, c.in_ok-contexts.ensures.planned)
 
 pub returns-clause-gives : goal.returns-clause-gives
@@ -23,4 +24,5 @@ returns-clause-gives c =
     let body = c.args.body.now in
     let given = c.in_ok-contexts.ensures.gives in
     let none = no_fault (faults_of body) (plan_of body) _ given in
-    rw (none, c.in_ok-admission.ensures.ok, c.in_ok-body.ensures.ok, c.in_ok-bytes.ensures.ok) refl
+    let copied = c.in_ok-bytes.ensures.items_if_clones_equal (λ x y same. same) in
+    rw (none, c.in_ok-admission.ensures.ok, c.in_ok-body.ensures.ok, copied) refl
