@@ -12,7 +12,7 @@ use Rattle.std.proofs.lemmas.Option.{none-some, same_Some, slice_get-map}
 use Rattle.table_model.specs.Forgotten.{deliveries_of}
 use Rattle.table_model.specs.Sound.{DeliveriesDiffer}
 use Rattle.table_model.specs.Runs.{is_delivered_as, RunState}
-use Rattle.forgotten_runs.proofs.TwoLists.{differ_first, differ_second, differ_together, none_in_both}
+use Rattle.forgotten_runs.proofs.TwoLists.{differ_second, differ_together, none_in_both}
 use Rattle.table_model.proofs.Found.{each_at, found_nowhere, none_found}
 use Rattle.table_model.proofs.OneAfterAnother.{OfEach, no}
 use Rattle.table_model.proofs.Optional.{from_map}
@@ -37,7 +37,7 @@ found_second kept runs r b none found = Decides-like b (λ at. (none, at)) (λ i
 
 -- ---- each kept delivery is found by itself
 
-abbrev pub is_it : List ℕ → List ℕ → _
+abbrev pub is_it : List ℕ → List ℕ → Bool
 is_it delivery known = bytes_eq known delivery
 
 abbrev pub IsKeptAt : List (List ℕ) → ℕ → List ℕ → Type 0

@@ -5,7 +5,6 @@ use Rattle.table_model.specs.Step.{kept_lease}
 use Rattle.stored_tables.specs.inner.StoredSites.{site_in_runs}
 use Rattle.table_model.specs.declared.sites.LegSite.{LegSite}
 use Rattle.table_model.proofs.OneAfterAnother.{not_so}
-use Rattle.table_model.specs.Forgotten.{ForgottenRuns}
 use Rattle.stored_tables.proofs.PartsRead.{given_lease, no_given, none_forgotten, run_within}
 use Rattle.stored_tables.proofs.leased.Leased.given_at.Goals as goal
 use Rattle.stored_tables.proofs.leased.Leased.given_at.Goals.{After-is_of_a_leg}
@@ -13,7 +12,7 @@ use Rattle.wf_value.proofs.PassedOn.{same_Ok}
 
 site_is : (c : After-is_of_a_leg) → c.site_in_runs-site.result ≡ site_in_runs c.args.self.now.forgotten.now.through c.args.stored.now
 site_is c =
-    c.site_in_runs-site.ensures ∙ ap (λ n. site_in_runs n c.args.stored.now) (c.through.ensures.through ∙ ap (λ (s : ForgottenRuns). s.through) c.forgotten.ensures)
+    c.site_in_runs-site.ensures ∙ ap (λ n. site_in_runs n c.args.stored.now) (c.through-through.ensures.through)
 
 decided : (c : After-is_of_a_leg) → Decides c.is_of_a_leg.result
     (IsOfALeg c.args.self.now.last c.args.self.now.runs.now

@@ -18,3 +18,12 @@ returns-in-Some-clause-of c =
     ((kept : KeptLease) → IsLeaseAs last runs (record { lease = c.args.parts.now.lease; place = o }) kept → ⊥)
     (λ kept. IsLeaseAs last runs (record { lease = c.args.parts.now.lease; place = o }) kept)))
     c.in-Some.ensures.value c.given_at.ensures.of
+
+pub returns-in-None-clause-of : goal.returns-in-None-clause-of
+returns-in-None-clause-of c =
+    let last = c.args.self.now.last in
+    let runs = c.args.self.now.runs.now in
+    subst (λ (o : Option StoredSite). IfOk c.present.result (λ found. MatchOption found
+    ((kept : KeptLease) → IsLeaseAs last runs (record { lease = c.args.parts.now.lease; place = o }) kept → ⊥)
+    (λ kept. IsLeaseAs last runs (record { lease = c.args.parts.now.lease; place = o }) kept)))
+    c.in-None.ensures.value c.present.ensures.of

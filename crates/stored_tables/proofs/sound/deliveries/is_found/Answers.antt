@@ -4,8 +4,8 @@ use Rattle.table_model.specs.Runs.{is_delivered_as}
 use Rattle.stored_tables.proofs.DeliveriesFound.{found_second, is_it, is_no_place, is_place, kept_first}
 use Rattle.stored_tables.proofs.sound.deliveries.is_found.Goals as goal
 
-pub returns-then-is_some-position : goal.returns-then-is_some-position
-returns-then-is_some-position c =
+pub returns-then-is_some : goal.returns-then-is_some
+returns-then-is_some c =
     let d = c.args.run.now.admitted.delivery in
     kept_first (position (is_it d) c.args.forgotten.now.deliveries) (position (is_delivered_as d) c.args.runs.now) c.args.r (search rules)
 
