@@ -41,7 +41,8 @@ use Rattle.std.proofs.hash.BuildHasherDefault.TheSendSync as hashers
 use Rattle.std.proofs.hash.FoldHasher.TheSendSync as hasher
 use Rattle.indexmap.proofs.map.IndexMap.TheSendSync as indexed
 use Rattle.label_lists.proofs.lists.LabelLists.TheSendSync as lists
-use Rattle.table_runs.proofs.rows.deliveries.DeliveryIndexes.TheSendSync as deliveries
+use Rattle.forgotten_runs.proofs.delivery_indexes.DeliveryIndexes.TheSendSync as deliveries
+use Rattle.forgotten_runs.proofs.forgotten.ForgottenRuns.TheSendSync as forgotten
 use Rattle.table_runs.proofs.rows.counts.Counted.TheSendSync as counted
 use Rattle.table_runs.specs.contracts.rows.workflow.Workflow.{the_row as key}
 use Rattle.table_runs.specs.contracts.rows.workflow.Workflow.TheInside.{the_row as key_inside}
@@ -159,7 +160,7 @@ command_send =
         (search (parts, claim.the_send) depth 6, tt),
         (
           (search (parts, done.the_send) depth 6, tt),
-          ((search (parts, beat.the_send) depth 6, tt), ((search (parts, number.the_send) depth 6, tt), ((search (parts, small.the_send) depth 6, tt), ((search (parts, number.the_send) depth 6, tt), ((search (parts, number.the_send) depth 6, tt), ((search (parts, attempt.the_send) depth 6, tt), tt)))))),
+          ((search (parts, beat.the_send) depth 6, tt), ((search (parts, number.the_send) depth 6, tt), ((search (parts, small.the_send) depth 6, tt), ((search (parts, number.the_send) depth 6, tt), ((search (parts, number.the_send) depth 6, tt), ((search (parts, attempt.the_send) depth 6, tt), ((search (parts, number.the_send) depth 6, tt), ((search (parts, small.the_send) depth 6, tt), tt)))))))),
         ),
       ),
     )
@@ -171,7 +172,7 @@ reply_send : IsSend reply
 reply_send =
     variants_send reply_variants (
       (search (parts, number.the_send) depth 6, tt),
-      ((search (parts, lease.the_send) depth 6, tt), (tt, (tt, (tt, (tt, ((search (parts, chars.the_send) depth 6, tt), ((body_send, tt), ((search (parts, attempt.the_send) depth 6, tt), ((search (parts, refusal.the_send) depth 6, tt), tt))))))))),
+      ((search (parts, lease.the_send) depth 6, tt), (tt, (tt, (tt, (tt, ((search (parts, chars.the_send) depth 6, tt), ((body_send, tt), ((search (parts, attempt.the_send) depth 6, tt), ((search parts depth 6, tt), ((search (parts, refusal.the_send) depth 6, tt), tt)))))))))),
     )
 
 pub entry_send : IsSend entry
@@ -225,7 +226,7 @@ runs_send =
     ))
 
 table_data_send : IsSend table_data
-table_data_send = view_send table_data_inside _ _ _ _ (declared_send table_data_type (search parts depth 6, (search (parts, runs_send) depth 6, (search (parts, runners.the_send) depth 6, tt))))
+table_data_send = view_send table_data_inside _ _ _ _ (declared_send table_data_type (search parts depth 6, (search (parts, forgotten.the_send) depth 6, (search (parts, runs_send) depth 6, (search (parts, runners.the_send) depth 6, tt)))))
 
 pub table_send : IsSend table
 table_send = view_send table_inside _ _ _ _ (declared_send table_type (search (parts, table_data_send) depth 6, (search parts depth 6, tt)))
