@@ -1,5 +1,6 @@
 pub mod FirstReaders
 mod FirstRows
+pub mod ForgottenKnown
 pub mod TableKnown
 pub mod TableLengthLaws
 pub mod TableReaders

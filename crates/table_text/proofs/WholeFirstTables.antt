@@ -1,9 +1,8 @@
 -- Whole tables of the first layout are encoded as what it stores of them, which distinguishes sound ones; and a batch
 -- of it is a batch of the second layout.
-use Rattle.std.proofs.Common.{◌≡◌, List, [], ◌∷◌, ℕ, suc, ◌++◌, ◌-◌, refl, sym, ◌∙◌, ap, ap₂, subst, arith}
+use Rattle.std.proofs.Common.{◌≡◌, List, [], ◌∷◌, ℕ, suc, ◌++◌, refl, sym, ◌∙◌, ap, ap₂, subst, arith}
 use Rattle.std.specs.Prelude.{true, false, Option, None, Some, map, option_map, slice_get}
 use Rattle.std.specs.List.{AllByRecursion, list_all}
-use Rattle.std.specs.Option.{option_map_or}
 use Rattle.std.proofs.lemmas.List.{length-map}
 use Rattle.std.proofs.lemmas.Option.{same_Some, slice_get-map}
 use Rattle.run_plan.specs.declared.command.Command.{Command}
@@ -12,7 +11,7 @@ use Rattle.run_plan.specs.declared.last_command.KeptLease.{KeptLease}
 use Rattle.run_plan.specs.declared.last_command.LastCommand.{LastCommand}
 use Rattle.run_plan.specs.declared.last_command.LastCommand.TheVariants as last
 use Rattle.table_model.specs.Parts.{stored_run}
-use Rattle.table_model.specs.Runs.{run_at, RunState}
+use Rattle.table_model.specs.Runs.{RunState}
 use Rattle.table_model.proofs.Found.{each_at}
 use Rattle.table_model.specs.Sound.{IsOfALeg, IsSound, KeptIsOfALeg}
 use Rattle.stored_tables.specs.Stored.{RunnerParts, TableParts}

@@ -1,5 +1,4 @@
 use Rattle.std.proofs.Common.{arith, subst, sym}
-use Rattle.std.specs.Prelude.{Some}
 use Rattle.command_encodings.proofs.Known.{is_numbered_within}
 use Rattle.table_text.specs.Tables.{IsLease}
 use Rattle.table_text.proofs.push_table.lease_word.Goals as goal

@@ -12,6 +12,6 @@ returns c =
     let runs : c.text_size-runs.result ≡ sum_by run_length (stored_table t).runs =
     c.text_size-runs.ensures.size ∙ ap (sum_by run_size) c.kept_runs.ensures.runs ∙ run_sizes t.runs in
     let runners : c.size_of_runners.result ≡ sum_by runner_length (stored_table t).runners = c.size_of_runners.ensures.size ∙ runner_sizes t.runners in
-    let gone : c.forgotten_length.result ≡ forgotten_length t.forgotten =
-    c.forgotten_length.ensures.length ∙ ap forgotten_length c.forgotten.ensures.forgotten in
+    let gone : c.forgotten_length-forgotten.result ≡ forgotten_length t.forgotten =
+    c.forgotten_length-forgotten.ensures.length ∙ ap forgotten_length c.forgotten.ensures.forgotten in
     omega (arith, runs, runners, gone, length_table (stored_table t))
