@@ -4,7 +4,7 @@ use Rattle.definitions.specs.SmallText.{is_delivery_byte}
 use Rattle.table_model.proofs.Found.{all_of}
 use Rattle.command_encodings.specs.Commands.{small_text}
 use Rattle.table_text.specs.Tables.{count}
-use Rattle.encoding_laws.proofs.Facts.{forgotten_takes}
+use Rattle.table_text.proofs.ForgottenKnown.{forgotten_takes}
 use Rattle.encoding_laws.proofs.tables.forgotten_fits.Goals as goal
 
 pub all_fit-requires : goal.all_fit-requires
