@@ -17,7 +17,7 @@ use Rattle.table_model.specs.TableState.{TableState}
 use Rattle.table_laws.proofs.ReachedTables.{after_is_sound}
 use Rattle.command_encodings.specs.Commands.{number}
 use Rattle.definitions.specs.Format.{pair, word_bytes, text_bytes}
-use Rattle.table_text.specs.Tables.{last_command, lease, runner, run}
+use Rattle.table_text.specs.Tables.{forgotten, last_command, lease, runner, run}
 use Rattle.command_encodings.proofs.LengthLaws.{length_text}
 use Rattle.act_store.specs.Checkpoints.{first_gate, text_length}
 use Rattle.act_store.specs.Entries.{commands_of, table_after}
@@ -49,6 +49,7 @@ runners_within : (t : TableState) → length t.runners ≤ text_length t
 runners_within t =
     let rs = map stored_runner t.runners in
     let last = word_bytes t.last_lease in
+    let gone = forgotten.encoding t.forgotten in
     let parts = map stored_run t.runs in
     let runs = word_bytes (length parts) ++ flat_map run.encoding parts in
     let suffix = word_bytes (length rs) ++ flat_map runner.encoding rs in
@@ -56,7 +57,8 @@ runners_within t =
       arith,
       runners_some rs,
       length-map t.runners stored_runner,
-      length-append last (runs ++ suffix),
+      length-append last (gone ++ (runs ++ suffix)),
+      length-append gone (runs ++ suffix),
       length-append runs suffix,
       length-append (word_bytes (length rs)) (flat_map runner.encoding rs),
     )
