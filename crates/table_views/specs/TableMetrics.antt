@@ -1,5 +1,5 @@
 -- The numbers of a table, in Prometheus' text format. Their names are defined by this project.
-use Rattle.std.specs.Prelude.{ℕ, List, ◌++◌, codes, find, flat_map, is_some, length, map, not}
+use Rattle.std.specs.Prelude.{ℕ, List, ◌++◌, Bool, codes, find, flat_map, is_some, length, map, not}
 use Rattle.std.specs.List.{count_by, filter}
 use Rattle.std.specs.Option.{option_map_or}
 use Rattle.table_model.specs.Runs.{leg_sites, RunState}
@@ -44,17 +44,29 @@ runner_lines runners =
 
 -- ---- forgotten runs
 
--- the id of the first run that has not completed, which keeps those behind it from being forgotten; 0 if all have
-abbrev pub first_open_run : List RunState → ℕ
-first_open_run runs = option_map_or (λ run. run.id) (find (λ run. not (has_completed run.phase)) runs) 0
+-- a run that has not completed
+abbrev pub is_open : RunState → Bool
+is_open run = not (has_completed run.phase)
 
-abbrev pub forgotten_lines : TableState → List ℕ
-forgotten_lines t =
-    metric (codes "acts_forgotten_runs") (codes "gauge") (codes "Runs that are forgotten: those with ids up to this one.") t.forgotten.through
-    ++ metric (codes "acts_first_open_run") (codes "gauge")
-    (codes "The first run that has not completed, which keeps later ones from being forgotten; 0 if all have.") (first_open_run t.runs)
+-- the id of the first one, which keeps those behind it from being forgotten; 0 if all have completed
+abbrev pub first_open_run : List RunState → ℕ
+first_open_run runs = option_map_or (λ run. run.id) (find is_open runs) 0
+
+abbrev pub through_lines : ℕ → List ℕ
+through_lines through =
+    metric (codes "acts_forgotten_runs") (codes "gauge") (codes "Runs that are forgotten: those with ids up to this one.") through
+
+abbrev pub open_lines : ℕ → List ℕ
+open_lines run =
+    metric (codes "acts_first_open_run") (codes "gauge")
+    (codes "The first run that has not completed, which keeps later ones from being forgotten; 0 if all have.") run
+
+abbrev pub forgotten_lines : ℕ → List RunState → List ℕ
+forgotten_lines through runs = through_lines through ++ open_lines (first_open_run runs)
 
 -- ---- all
 
 abbrev pub table_metrics : TableState → List ℕ
-table_metrics t = run_lines t.runs ++ leg_lines t.runs ++ ready_lines t.runs ++ runner_lines t.runners ++ forgotten_lines t
+table_metrics t =
+    run_lines t.runs ++ leg_lines t.runs ++ ready_lines t.runs ++ runner_lines t.runners
+    ++ forgotten_lines t.forgotten.through t.runs

@@ -1,7 +1,6 @@
 //! A page of the runs of a table, newest first.
 
-ghost use Rattle.std.specs.Prelude.{◌≡◌, ◌<◌, ◌≤◌, ◌++◌, ◌^◌, IfOk, List, OnOk, length, string_bytes};
-ghost use Rattle.table_model.specs.TableState.{TableState, index_of};
+ghost use Rattle.std.specs.Prelude.{◌≡◌, ◌<◌, ◌≤◌, ◌+◌, ◌++◌, ◌^◌, IfOk, OnOk, length, string_bytes};
 ghost use Rattle.wf_value.specs.Gives.{ErrsOnlyByMemory};
 ghost use Rattle.definitions.specs.Limits.{max_runs};
 ghost use Rattle.table_views.specs.RunPages.{IsRunsPage, newest_rows, next_below, runs_below, shown_row};

@@ -1,7 +1,7 @@
 //! The numbers of a table, in Prometheus' text format.
 
-ghost use Rattle.std.specs.Prelude.{◌≡◌, ◌++◌, OnOk, string_bytes};
-ghost use Rattle.table_views.specs.TableMetrics.{first_open_run, forgotten_lines, leases_of, runner_lines, table_metrics};
+ghost use Rattle.std.specs.Prelude.{◌≡◌, ◌++◌, OnOk, find, option_map, string_bytes};
+ghost use Rattle.table_views.specs.TableMetrics.{first_open_run, forgotten_lines, is_open, leases_of, open_lines, runner_lines, table_metrics, through_lines};
 
 use crate::leg_counts::push_legs;
 use crate::metric_lines::{one_more, push_metric};
@@ -45,20 +45,31 @@ fn push_runners(alloc: Global, text: &mut String, runners: &[Runner]) -> Result<
     )
 }
 
+/// Whether a run has not completed.
+fn is_open(run: &Run) -> bool
+    ensures { result ≡ is_open run.now }
+{
+    !matches!(run.phase(), RunPhase::Ended)
+}
+
+fn first_open(runs: &[Run]) -> Option<&Run>
+    ensures { option_map (λ run. run.now) result ≡ find is_open runs.now }
+{
+    runs.iter().find(|run| is_open(run))
+}
+
 /// The id of the first run that has not completed; 0 if all have.
 fn first_open_run(runs: &[Run]) -> u64
     ensures { result ≡ first_open_run runs.now }
 {
-    for run in runs {
-        if !matches!(run.phase(), RunPhase::Ended) {
-            return u64::from(run.id().get());
-        }
+    match first_open(runs) {
+        Some(run) => u64::from(run.id().get()),
+        None => 0,
     }
-    0
 }
 
-fn push_forgotten(alloc: Global, text: &mut String, table: &Table) -> Result<(), AllocError>
-    ensures { OnOk result (string_bytes text.new ≡ string_bytes text.old ++ forgotten_lines table.now) }
+fn push_through(alloc: Global, text: &mut String, through: u32) -> Result<(), AllocError>
+    ensures { OnOk result (string_bytes text.new ≡ string_bytes text.old ++ through_lines through) }
 {
     push_metric(
         alloc,
@@ -66,16 +77,33 @@ fn push_forgotten(alloc: Global, text: &mut String, table: &Table) -> Result<(),
         "acts_forgotten_runs",
         "gauge",
         "Runs that are forgotten: those with ids up to this one.",
-        u64::from(table.through()),
-    )?;
+        u64::from(through),
+    )
+}
+
+fn push_open(alloc: Global, text: &mut String, run: u64) -> Result<(), AllocError>
+    ensures { OnOk result (string_bytes text.new ≡ string_bytes text.old ++ open_lines run) }
+{
     push_metric(
         alloc,
         text,
         "acts_first_open_run",
         "gauge",
         "The first run that has not completed, which keeps later ones from being forgotten; 0 if all have.",
-        first_open_run(table.runs()),
+        run,
     )
+}
+
+fn push_forgotten(
+    alloc: Global,
+    text: &mut String,
+    through: u32,
+    runs: &[Run],
+) -> Result<(), AllocError>
+    ensures { OnOk result (string_bytes text.new ≡ string_bytes text.old ++ forgotten_lines through runs.now) }
+{
+    push_through(alloc, text, through)?;
+    push_open(alloc, text, first_open_run(runs))
 }
 
 /// Appends the metrics of a table.
@@ -94,6 +122,6 @@ pub fn push_table_metrics(alloc: Global, text: &mut String, table: &Table) -> Re
     push_legs(alloc, text, runs.as_slice())?;
     push_ready(alloc, text, runs)?;
     push_runners(alloc, text, table.runners())?;
-    push_forgotten(alloc, text, table)?;
+    push_forgotten(alloc, text, table.through(), table.runs())?;
     Ok(())
 }

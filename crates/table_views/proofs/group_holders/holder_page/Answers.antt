@@ -4,7 +4,7 @@ use Rattle.table_model.specs.Runs.{RunState}
 use Rattle.table_views.specs.HolderPages.{IsHolderPage, holder_rows}
 use Rattle.table_views.specs.Members.{number_or_null}
 use Rattle.table_views.specs.Pages.{IsPage, page_text, rows_from}
-use Rattle.table_views.specs.ReadyPages.{next_run, start_at}
+use Rattle.table_views.specs.ReadyPages.{next_run}
 use Rattle.definitions.specs.Limits.{most_looked}
 use Rattle.table_views.proofs.Paging.{gives_ok, if_gives}
 use Rattle.table_views.proofs.group_holders.holder_page.Goals as goal

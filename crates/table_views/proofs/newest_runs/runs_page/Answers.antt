@@ -2,7 +2,7 @@ use Rattle.std.proofs.Common.{◌∙◌, ℕ, List, length, ap, ap₂, subst, sy
 use Rattle.std.specs.Prelude.{codes, string_bytes}
 use Rattle.table_views.specs.Members.{number_or_null}
 use Rattle.table_views.specs.Pages.{IsPage, page_text, rows_from}
-use Rattle.table_views.specs.RunPages.{IsRunsPage, newest_rows, next_below, runs_below}
+use Rattle.table_views.specs.RunPages.{IsRunsPage, newest_rows, next_below}
 use Rattle.definitions.specs.Limits.{most_looked}
 use Rattle.table_views.proofs.Paging.{gives_ok, if_gives}
 use Rattle.table_views.proofs.newest_runs.runs_page.Goals as goal

@@ -3,7 +3,7 @@ use Rattle.std.specs.Prelude.{codes, string_bytes}
 use Rattle.table_model.specs.Runs.{RunState}
 use Rattle.table_views.specs.Members.{number_or_null}
 use Rattle.table_views.specs.Pages.{IsPage, page_text, rows_from}
-use Rattle.table_views.specs.ReadyPages.{IsReadyPage, next_run, ready_rows, start_at}
+use Rattle.table_views.specs.ReadyPages.{IsReadyPage, next_run, ready_rows}
 use Rattle.definitions.specs.Limits.{most_looked}
 use Rattle.table_views.proofs.Paging.{gives_ok, if_gives}
 use Rattle.table_views.proofs.ready_legs.ready_page.Goals as goal
