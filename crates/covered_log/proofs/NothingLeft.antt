@@ -16,7 +16,7 @@ use Rattle.table_views.specs.LeaseNames.{NamesState}
 use Rattle.table_views.specs.RunViews.{leg_news}
 use Rattle.table_views.specs.declared.told_legs.LegNews.{LegNews}
 use Rattle.covered_log.specs.Lines.{Change, Displaced, Forgets}
-use Rattle.covered_log.specs.Standings.{Standing, Standings, displaced_news, is_displaced, is_over, is_same, is_same_lease, is_same_leg, is_stopped, is_told, job_site, knows_stop, left_of, legs_to_keep, moved_leg, moved_legs, moved_of_job, moved_run, news_of, of_legs, run_news, runs_after, runs_news, standing_of, table_news, told_after, told_leg, told_of}
+use Rattle.covered_log.specs.Standings.{Standing, Standings, displaced_news, is_over, is_same, is_same_lease, is_same_leg, is_stopped, is_told, job_site, knows_stop, left_of, legs_to_keep, moved_leg, moved_legs, moved_of_job, moved_run, news_of, of_legs, run_news, runs_after, runs_news, standing_of, table_news, told_after, told_leg, told_of}
 
 -- ---- what is told of each element with its index
 

@@ -234,7 +234,7 @@ impl CoveredLog {
         ensures told { self.new.changes ≡ with_all self.old.changes (forgotten_news look.now.at look.now.table.now standings.now) }
         ensures entries { entries_of self.new.changes ≡ entries_of self.old.changes }
     {
-        let through = look.table.forgotten().through();
+        let through = look.table.through();
         if standings.through() < through {
             self.tell_through(alloc, look.at, through);
         }
@@ -282,6 +282,7 @@ impl CoveredLog {
     {
         self.tell_forgotten(alloc, look, standings);
         standings.forget(look.table);
-        self.look_at_all(alloc, look, &mut standings.runs)
+        self.look_at_all(alloc, look, &mut standings.runs)?;
+        Ok(())
     }
 }

@@ -319,7 +319,7 @@ impl Standings {
         ensures { IfOk result (λ standings. standings ≡ standings_of table.now) }
     {
         Ok(Standings {
-            through: table.forgotten().through(),
+            through: table.through(),
             runs: ToldRuns::of(alloc, table)?,
         })
     }
@@ -335,7 +335,7 @@ impl Standings {
     pub(crate) fn forget(&mut self, table: &Table)
         ensures { self.new ≡ record { through = table.now.forgotten.through; runs = left_of table.now self.old } }
     {
-        let through = table.forgotten().through();
+        let through = table.through();
         let count = through.saturating_sub(self.through) as usize;
         self.runs.forget(count);
         self.through = through;

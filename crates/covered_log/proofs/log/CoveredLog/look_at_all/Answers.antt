@@ -9,8 +9,8 @@ use Rattle.covered_log.specs.Standings.{Standing, news_of, told_of}
 use Rattle.covered_log.proofs.Telling.{all_of_both, next_there, read_next, visited}
 use Rattle.covered_log.proofs.log.CoveredLog.look_at_all.Goals as goal
 
-pub look_at-requires-clause-known : goal.look_at-requires-clause-known
-look_at-requires-clause-known c =
+pub look_at-requires : goal.look_at-requires
+look_at-requires c =
     let runs = c.as_slice-runs.result.now in
     let r = c.loop-r.r in
     let known = c.args.standings.now in
