@@ -7,8 +7,8 @@ use std::alloc::{AllocError, Global};
 use table_views::{push_head, push_metric, push_value};
 
 /// How a service stands: the version of its program, the seconds since it began, how many clients each port has, for how many seconds the
-/// runner with a lease that is silent for longest was not heard, and for how many the first run has been the first, the length of an area and its room, its generation, and how many checkpoints
-/// were finished.
+/// runner with a lease that is silent for longest was not heard, and for how many the first run has been the first, the length of an area and
+/// its room, its generation, and how many checkpoints were finished.
 #[derive(Clone, Copy)]
 pub struct Gauges<'a> {
     pub version: &'a str,
