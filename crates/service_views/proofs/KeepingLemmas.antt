@@ -4,14 +4,17 @@ use Rattle.std.proofs.lemmas.Bool.{leb-false, leb-true}
 use Rattle.std.proofs.lemmas.List.{drop_all, map-append}
 use Rattle.std.proofs.lemmas.Slice.Eq.{bytes_eq-Decides}
 use Rattle.std.specs.HashMap.{get_by_text}
+use Rattle.std.specs.Option.{option_map_or}
 use Rattle.std.specs.Str.{bytes_eq}
-use Rattle.std.specs.Prelude.{Bool, true, false, cond, nat_le, None, Option, Some, slice_get}
+use Rattle.std.specs.Prelude.{Bool, true, false, cond, nat_le, None, Option, Some, slice_get, if◌then◌else◌}
 use Rattle.std.specs.declared.time.Instant.{Instant}
+use Rattle.run_plan.specs.declared.command.Command.{Command}
+use Rattle.run_plan.specs.declared.command.Command.TheVariants as command
 use Rattle.run_plan.specs.declared.reply.Reply.{Reply}
 use Rattle.act_store.specs.declared.entry.Entry.{Entry}
 use Rattle.service_metrics.specs.Counters.{CountersState, counters_of}
 use Rattle.service_views.proofs.FollowingLemmas.{entries_next}
-use Rattle.service_views.specs.Keeping.{Counts, HeardAfter, HeardAt, Notes, with_entries}
+use Rattle.service_views.specs.Keeping.{Counts, HeardAfter, HeardAt, HeardBy, HeardOrNot, Notes, comes_from, is_discharged, runner_of, with_entries}
 use Rattle.service_views.specs.declared.kept.Kept.{Kept}
 
 -- ---- who was heard
@@ -22,6 +25,36 @@ heard_both : (now : Instant) (name : List ℕ) (xs ys : List Entry) (old mid new
 heard_both now name [] ys old mid new same second = subst (λ (o : Option Instant). HeardAfter now name ys o new) same second
 heard_both now name (x ∷ xs) ys old mid new first second =
     (first.0, first.1, heard_both now name xs ys first.0 mid new first.2 second)
+
+-- an entry that discharges a runner comes from none
+discharges_alone : (q : List ℕ) (c : Command) (r : Reply) → is_discharged q c r ≡ true → runner_of c ≡ None
+discharges_alone q (command.Admit event) r is = absurd (cc is)
+discharges_alone q (command.Claim claim) r is = absurd (cc is)
+discharges_alone q (command.Done done) r is = absurd (cc is)
+discharges_alone q (command.Beat beat) r is = absurd (cc is)
+discharges_alone q (command.Cancel run) r is = absurd (cc is)
+discharges_alone q (command.Lost runner) r is = absurd (cc is)
+discharges_alone q (command.Look run) r is = absurd (cc is)
+discharges_alone q (command.Fetch run) r is = absurd (cc is)
+discharges_alone q (command.Rerun attempt) r is = absurd (cc is)
+discharges_alone q (command.Forget run) r is = absurd (cc is)
+discharges_alone q (command.Discharge runner) r is = refl
+
+-- after an entry that discharges a runner
+pub heard_discharged : (runner name : List ℕ) (now : Instant) (e : Entry) (old new : Option Instant)
+    → ((q : List ℕ) → bytes_eq runner q ≡ is_discharged q e.command e.reply) → new ≡ (if bytes_eq runner name then None else old)
+    → HeardAfter now name (e ∷ []) old new
+heard_discharged runner name now e old new discharges is = (new, by (bytes_eq runner name) refl, refl)
+  where
+    none : runner_of e.command ≡ None
+    none = discharges_alone runner e.command e.reply (sym (discharges runner) ∙ (bytes_eq-Decides runner runner).1 refl)
+
+    by : (b : Bool) → bytes_eq runner name ≡ b → HeardBy now name e old new
+    by true same = subst (λ (b : Bool). HeardOrNot b (comes_from name e) now old new) (sym same ∙ discharges name)
+        (is ∙ ap (λ (b : Bool). if b then None else old) same)
+    by false other = subst (λ (b : Bool). HeardOrNot b (comes_from name e) now old new) (sym other ∙ discharges name)
+        (subst (λ (r : Option (List ℕ)). HeardAt (option_map_or (λ r. bytes_eq r name) r false) now old new) (sym none)
+        (is ∙ ap (λ (b : Bool). if b then None else old) other))
 
 -- a map in which the runner has this time, and all others have theirs
 pub heard_from_update : (b : Bool) (now : Instant) (old new : Option Instant) → new ≡ cond b (Some now) old → HeardAt b now old new

@@ -50,10 +50,14 @@ abbrev pub HeardAt : Bool → Instant → Option Instant → Option Instant → 
 HeardAt true now old new = (new ≡ Some now) ⊎ ((old ≡ None) × (new ≡ None))
 HeardAt false now old new = new ≡ old
 
--- the same after an entry: it is not known of a runner that is discharged
+-- the same, but it is not known of a runner that is discharged
+abbrev pub HeardOrNot : Bool → Bool → Instant → Option Instant → Option Instant → Type 0
+HeardOrNot true heard now old new = new ≡ None
+HeardOrNot false heard now old new = HeardAt heard now old new
+
+-- the same after an entry
 abbrev pub HeardBy : Instant → List ℕ → Entry → Option Instant → Option Instant → Type 0
-HeardBy now name e old new =
-    if is_discharged name e.command e.reply then new ≡ None else HeardAt (comes_from name e) now old new
+HeardBy now name e old new = HeardOrNot (is_discharged name e.command e.reply) (comes_from name e) now old new
 
 -- after entries, one after the other
 abbrev pub HeardAfter : Instant → List ℕ → List Entry → Option Instant → Option Instant → Type 0

@@ -1,13 +1,13 @@
 //! What is kept of a service for those that look at it: its changes, its counts, and when its runners were last heard.
 
-ghost use Rattle.std.specs.Prelude.{◌≡◌, ◌∷◌, [], ◌==◌, IfOk, List, false, not, option_map, ℕ};
+ghost use Rattle.std.specs.Prelude.{◌≡◌, ◌∷◌, [], ◌==◌, IfOk, List, None, false, if◌then◌else◌, not, option_map, ℕ};
 ghost use Rattle.std.specs.Option.{option_map_or};
 ghost use Rattle.std.specs.Duration.{as_nanos};
 ghost use Rattle.std.specs.HashMap.{get_by_text};
 ghost use Rattle.std.specs.Str.{bytes_eq};
 ghost use Rattle.service_metrics.specs.Counters.{Done, counters_of, with_commit};
 ghost use Rattle.service_views.specs.HeardTimes.{longest_silence, seconds_between, seconds_since, silence_of};
-ghost use Rattle.service_views.specs.Keeping.{Begins, GoesOn, HeardAt, Notes, covered_after, is_discharged, runner_of};
+ghost use Rattle.service_views.specs.Keeping.{Begins, Counts, GoesOn, HeardAt, Notes, covered_after, is_discharged, runner_of};
 ghost use Rattle.table_views.specs.MetricLines.{capped};
 
 use crate::changes::Changes;
@@ -86,13 +86,30 @@ impl Kept {
         }
     }
 
+    /// The runner with this name is discharged: it is not known any more when it was heard.
+    fn discharge(&mut self, runner: &RunnerName)
+        ensures heard { (name : List ℕ) → get_by_text self.new.heard name
+            ≡ (if bytes_eq runner.now name then None else get_by_text self.old.heard name) }
+        ensures rest { self.new ≡ record self.old { heard = self.new.heard } }
+    {
+        let _heard = self.heard.remove(runner.as_str());
+    }
+
+    /// Counts an entry.
+    fn count(&mut self, entry: &Entry)
+        ensures counted { Counts (entry.now ∷ []) self.old.counters self.new.counters }
+        ensures rest { self.new ≡ record self.old { counters = self.new.counters } }
+    {
+        self.counters.entered(&entry.reply);
+    }
+
     /// Counts an entry that was made durable, and notes that the runner was heard from which it comes, or leaves out the one that it discharges.
     fn note(&mut self, alloc: Global, entry: &Entry, now: Instant)
         ensures { Notes (entry.now ∷ []) now self.old self.new }
     {
-        self.counters.entered(&entry.reply);
+        self.count(entry);
         if let Some(runner) = discharged_by(entry) {
-            let _heard = self.heard.remove(runner.as_str());
+            self.discharge(runner);
         } else if let Some(runner) = runner_of(&entry.command) {
             let _ = self.hear(alloc, runner, now);
         }
