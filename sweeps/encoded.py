@@ -1,4 +1,4 @@
-"""The bytes of stores, encoded by docs/FORMATS.md: numbers and texts, the commands of events and runners, tables of the first and the second layout, records, areas."""
+"""The bytes of stores, encoded by docs/FORMATS.md: numbers and texts, the commands of events and runners, tables of each layout, records, areas."""
 
 from service import BODY
 
@@ -42,6 +42,14 @@ def rerun(run, attempt):
     return b'\11' + number(run) + number(attempt)
 
 
+def forget(run):
+    return b'\14' + number(run)
+
+
+def discharge(name):
+    return b'\15' + text(name)
+
+
 def leg(phase, lease=0):
     return bytes([phase]) + number(lease)
 
@@ -77,6 +85,11 @@ def keeper(name, last, command, lease, run, holds=0):
     return text(name) + number(last) + command + b'\1' + number(lease) + number(run) + number(1) + number(0) + number(0) + number(holds)
 
 
+def idle(name, last, command):
+    """A runner of the second and of the third layout, whose kept reply is nothing."""
+    return text(name) + number(last) + command + b'\0' + number(0)
+
+
 def table(last_lease, runs=(), runners=()):
     return number(last_lease) + number(len(runs)) + b''.join(runs) + number(len(runners)) + b''.join(runners)
 
@@ -85,9 +98,12 @@ def table(last_lease, runs=(), runners=()):
 LATEST = 4
 
 
-def latest(words):
-    """The text of a table of the second layout, in the third, which has no forgotten run."""
-    return words[:4] + bytes(8) + words[4:]
+def latest(words, counts=(), deliveries=()):
+    """The text of a table of the second layout, in the third: with the repository, the path and the count of each workflow of which runs are
+    forgotten, and the deliveries of these runs, which are kept."""
+    of_each = b''.join(text(repository) + text(path) + number(count) for repository, path, count in counts)
+    forgotten = number(sum(count for *_, count in counts)) + number(len(counts)) + of_each + b''.join(map(text, deliveries))
+    return words[:4] + forgotten + words[4:]
 
 
 def batch(*commands):
