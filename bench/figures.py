@@ -51,6 +51,10 @@ FORMS = {
     ],
     "bench/scale/counted": [(r"(?P<kind>[\w-]+) (?P<size>[\d,]+): (?P<commands>.*)", [("{kind}: {command}", "{size}", "{count}", "instructions")])],
     "bench/scale/served": [(r"(?P<kind>[\w-]+) (?P<size>[\d,]+): (?P<commands>.*)", [("{kind}: {command}", "{size}", "{count}", "instructions")])],
+    "bench/scale/forgets": [
+        (rf"(?P<shape>[\w ]+), (?P<gone>{N}) forgotten, (?P<left>{N}) left: (?P<least>{N}) ms on the clock at least, (?P<half>{N}) in the median; {N} ms of a processor at least, {N} in the median",
+         [("a forget of {gone} runs, {shape}: the least; the median", "{left}", "{least}; {half}", "ms")]),
+    ],
     "bench/disk/run.sh": [
         (rf" *(?P<size>\d+) bytes, (?P<file>\w+): FileDisk (?P<ours>{N}) us, plain C (?P<c>{N}) us an append, ratio (?P<ratio>{N})",
          [("an append of {size} bytes with a sync, the file {file}", "acts", "{ours}", "microseconds"), ("an append of {size} bytes with a sync, the file {file}", "C", "{c}", "microseconds")]),
