@@ -62,6 +62,13 @@ def test_the_hub_alone_listens(up: Up) -> None:
     assert up.get('/api/v3/repos/octo/hello/actions/runs', up.token).json()['total_count'] >= 1
 
 
+def test_the_service_keeps_the_last_runs(up: Up) -> None:
+    """As many as the unit does; another number, and none to be forgotten, can be asked for."""
+    words_of = {pathlib.Path(f'/proc/{name}/cmdline').read_bytes().rstrip(b'\0').split(b'\0')[-1] for name in up.children().values()}
+    assert b'10000' in words_of and '--keep-runs 10000\n' in (HUB / 'units' / 'acts.service').read_text()
+    assert words(str(up.place / 'x'), '--keep-runs', '50001')[1].endswith('argument --keep-runs: 1 to 50000, or 0, are wanted\n')
+
+
 def test_what_is_secret_is_its_owners(up: Up) -> None:
     """Key, tokens, secret, store and configuration are for nobody else; the runner's token is the runner's."""
     for name in 'key.pem', 'admin.token', 'webhook.secret', 'runs.store', 'hub.toml', 'runner/token', 'hub.log', 'runner.log', 'service.log':

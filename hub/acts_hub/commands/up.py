@@ -6,7 +6,9 @@ import os
 import pathlib
 from typing import Any
 
-from ..up.run import Wishes, run as run_up
+from ..up.run import KEEP_RUNS, Wishes, run as run_up
+
+MAX_KEPT = 50_000
 
 
 def add(parsers: Any) -> None:
@@ -20,9 +22,18 @@ def add(parsers: Any) -> None:
     parser.add_argument('--no-runner', action='store_true', help='start no runner, and no example: runners come from other hosts')
     parser.add_argument('--open-loopback', action='store_true', help='go on where no network namespace can be had: every program can use the ports')
     parser.add_argument('--runner-user', metavar='NAME', help='begun by root: as whom the runner runs (nobody, where that can be)')
+    parser.add_argument('--keep-runs', type=_count, default=KEEP_RUNS, metavar='RUNS',
+                        help=f'how many runs the service keeps, 1 to {MAX_KEPT:,}; older ones that have completed go, with their logs and artifacts; 0 keeps all ({KEEP_RUNS:,})')
     parser.set_defaults(run=run)
+
+
+def _count(text: str) -> int:
+    if not text.isascii() or not text.isdecimal() or int(text) > MAX_KEPT:
+        raise argparse.ArgumentTypeError(f'1 to {MAX_KEPT}, or 0, are wanted')
+    return int(text)
 
 
 def run(given: argparse.Namespace) -> int:
     """Starts all."""
-    return run_up(Wishes(given.folder, given.acts, given.listen, given.once, given.no_runner, given.open_loopback, given.runner_user))
+    return run_up(Wishes(given.folder, given.acts, given.listen, given.once, given.no_runner, given.open_loopback, given.runner_user,
+                         given.keep_runs))

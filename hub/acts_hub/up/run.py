@@ -28,6 +28,8 @@ from .folder import REPOSITORY, Folder, Unfit, check_own, prepare
 PACKAGES = pathlib.Path(__file__).resolve().parents[2]
 LABELS = 'linux'
 NAME = 'up'
+KEEP_RUNS = 10_000
+"""So many runs the service keeps; with them go the logs and artifacts of the others."""
 INSIDE = (8080, 8081, 8083)
 """The ports of the service, where they are alone in its namespace."""
 
@@ -43,6 +45,7 @@ class Wishes:
     no_runner: bool
     open_loopback: bool
     runner_user: str | None
+    keep_runs: int = KEEP_RUNS
 
 
 def say(words: str) -> None:
@@ -106,7 +109,7 @@ def _children(folder: Folder, config: Config, acts: str, wishes: Wishes, user: s
     """The service behind its doors, the hub, and the runner, in the order of their starts."""
     hook, lines, shown = _free_ports() if wishes.open_loopback else INSIDE
     serve = (acts, 'serve', str(folder.store), '--hook-port', str(hook), '--runner-port', str(lines), '--view-port', str(shown),
-             '--sessions', '32', '--forever')
+             '--sessions', '32', '--forever', *(['--keep-runs', str(wishes.keep_runs)] if wishes.keep_runs else []))
     doors = (*_program('acts_hub'), 'doors', '--folder', str(folder.doors), *(['--open-loopback'] if wishes.open_loopback else []), '--')
     runner = (*_program('acts_runner'), '--hub', config.url, '--token-file', str(folder.runner_token), '--ca', str(folder.certificate),
               '--name', NAME, '--labels', LABELS, '--state', str(folder.runner / 'state'), '--mirrors', str(folder.mirrors), '--pause', '1')
