@@ -15,6 +15,7 @@ from .events.intake import Events
 from .ledger.artifacts import ArtifactStore
 from .ledger.caches import CacheStore
 from .ledger.database import Database
+from .ledger.forgetting import Forgetting
 from .ledger.logs import LogStore
 from .ledger.notes import NoteStore
 from .ledger.refused import RefusedStore
@@ -50,6 +51,7 @@ class Hub:
         self.notes = NoteStore(self.database)
         self.access = Access(config, self.database)
         self.mirror.dropped += [self.logs.drop, self.artifacts.drop, self.notes.drop]
+        self.forgetting = Forgetting(self)
         self.fault_page: Callable[[web.Request, int, str], web.Response] | None = None      # set by the pages
         self.events: Events = events.make(self)
         self.gateway: Part | None = gateway.make(self)
@@ -62,7 +64,8 @@ class Hub:
         except OSError as fault:
             say(f'the folder {self.folder} can not be made: {fault.strerror}')
         await asyncio.to_thread(self.database.open, LEDGER_SECONDS)
-        self._tasks += [asyncio.create_task(self.mirror.follow(), name='mirror'), asyncio.create_task(Retention(self).watch(), name='retention')]
+        self._tasks += [asyncio.create_task(self.mirror.follow(), name='mirror'), asyncio.create_task(Retention(self).watch(), name='retention'),
+                        asyncio.create_task(self.forgetting.watch(), name='forgetting')]
         for part in self.events, self.gateway:
             if part is not None:
                 await part.start()

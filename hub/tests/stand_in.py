@@ -25,6 +25,7 @@ class StandIn:
         self.more = asyncio.Event()
         self.view = self.hook = ''
         self.delay = 0.0
+        self.forgotten = 0
 
     def add(self, number: int, *, status: str = 'completed', conclusion: str | None = 'success', **more: Any) -> dict[str, Any]:
         """A run, with a body."""
@@ -39,6 +40,12 @@ class StandIn:
             'event': {'head_commit': {'message': f'Change {number // 2}', 'timestamp': '2026-11-30T10:00:00+01:00', 'author': {'name': 'Mona', 'email': 'm@example.org'}}}},
             'workflow': {'name': name, 'jobs': {'build': {'runs-on': 'linux'}}}}).encode()
         return row
+
+    def forget(self, last: int) -> None:
+        """The runs up to one are forgotten."""
+        self.forgotten = last
+        for run in [run for run in self.rows if run <= last]:
+            del self.rows[run], self.bodies[run]
 
     def say(self, *lines: dict[str, Any]) -> None:
         """Adds lines of /changes."""
@@ -66,6 +73,8 @@ class StandIn:
             return web.json_response({'runners': [], 'after': None})
         if path == '/healthz':
             return web.Response(text='ok\n')
+        if path == '/metrics':
+            return web.Response(text=f'# HELP acts_forgotten_runs ..\nacts_forgotten_runs {self.forgotten}\n')
         number = int(path.split('/')[2])
         if path.endswith('/body'):
             if not self.has_body:

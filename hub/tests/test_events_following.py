@@ -314,6 +314,26 @@ def test_a_run_whose_legs_lack_several_labels_is_told_of_once(monkeypatch: pytes
     assert told == ['no runner has gpu, windows']
 
 
+def test_what_was_forgotten_while_the_hub_was_away_makes_no_other_store(tmp_path: pathlib.Path) -> None:
+    """The newest run that was told of is forgotten: what came behind it is told of all the same."""
+    told = Told(tmp_path / 'x')
+    try:
+        told.start()
+        told.repository.only({'one.yml': ONE})
+        first = created(told.sender.push(told.repository.push('refs/heads/main', 'x', {'src/1': ''})))['one.yml']
+        told.work()
+        told.status_of(first, 'success')
+        told.hub.kill()
+        later = told.service.admit()
+        told.work()
+        assert told.service.post(f'/runs/{first}/forget').text == f'forgotten {first}\n'
+        told.hub.start()
+        told.status_of(later, 'success')
+        assert told.hub.process and 'this is another store' not in told.hub.process.said()
+    finally:
+        told.end()
+
+
 def test_another_store_is_taken_up_without_a_word(tmp_path: pathlib.Path) -> None:
     """A hub that finds another store in place of its own tells nothing of what is there, and of what comes then."""
     told = Told(tmp_path / 'x')

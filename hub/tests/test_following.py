@@ -303,19 +303,58 @@ def test_lines_of_changes() -> None:
 
 
 @pytest.mark.quick
-def test_forgotten_runs_are_gone_and_what_is_kept_of_them_stays(tmp_path: pathlib.Path) -> None:
+def test_forgotten_runs_are_shown_no_more(tmp_path: pathlib.Path) -> None:
     async def test() -> None:
         async with StandIn() as stand:
-            for run in 1, 2, 3:
+            for run in 1, 2, 3, 4:
                 stand.add(run)
             async with mirrored(stand, tmp_path) as mirror:
-                await until(lambda: sorted(mirror.runs) == [1, 2, 3] and all(mirror.kept.of(run) for run in (1, 2, 3)))
-                del stand.rows[1], stand.rows[2]
-                # runs up to 3 were asked for, of which the third had not completed
-                stand.say({'entry': 1, 'command': {'name': 'forget', 'run': 3}, 'reply': 'forgotten 2', 'at': 1000}, {'after': 1, 'type': 'forgotten', 'through': 2, 'at': 1000})
+                await until(lambda: all(run.digest for run in mirror.runs.values()) and mirror.attempts.has_whole(2, 1))
+                told: list[int] = []
+                mirror.forgot.append(told.append)
+                stand.forget(2)
+                # runs up to 4 were asked for, of which the third had not completed
+                stand.say({'entry': 1, 'command': {'name': 'forget', 'run': 4}, 'reply': 'forgotten 2', 'at': 1000}, {'after': 1, 'type': 'forgotten', 'through': 2, 'at': 1000})
                 await until(lambda: 1 not in mirror.runs)
-                assert sorted(mirror.runs) == [3] and all(mirror.kept.of(run) for run in (1, 2, 3))
+                assert sorted(mirror.runs) == [3, 4] and told == [2] == [mirror.forgotten]
+                assert list(mirror.of('octo/hello').ids) == [3, 4] == [run.id for run in mirror.select('octo/hello', status='completed')]
+                assert not mirror.attempts.has_whole(2, 1) and mirror.attempts.whole(3, 1) is not None and (2, 1) not in mirror.attempts.notes
+                assert await mirror.whole(2) is None and mirror.attempt(2, 1) is None
+            stand.forget(3)                                 # while nobody listens, and nothing tells of it but the list
+            stand.epoch += 1
+            stand.lines.clear()
+            async with mirrored(stand, tmp_path) as mirror:
+                assert sorted(mirror.runs) == [4] and mirror.forgotten == 3
+                stand.say({'after': 1, 'type': 'forgotten', 'through': 2, 'at': 1000})   # of before the list
+                stand.add(5, status='queued')
+                stand.say({'entry': 2, 'command': {**CREATED, 'delivery': 'd5'}, 'reply': 'created 5', 'at': 1000})
+                await until(lambda: 5 in mirror.runs)
+                assert mirror.forgotten == 3
+            stand.forget(4)
+            del stand.rows[5]                               # a store that was restored, all of whose runs were forgotten
+            async with mirrored(stand, tmp_path) as mirror:
+                assert not mirror.runs and mirror.forgotten == 4
     play(test())
+
+
+def test_half_of_many_runs_are_forgotten_at_once(tmp_path: pathlib.Path, capsys: pytest.CaptureFixture[str]) -> None:
+    async def test() -> None:
+        async with StandIn() as stand:
+            for run in range(1, 20_001):
+                stand.add(run)
+            async with mirrored(stand, tmp_path) as mirror:
+                await until(lambda: all(run.digest for run in mirror.of('octo/hello')[-1000:]))
+                asked: list[dict[str, str]] = [{}, {'branch': 'main'}, {'branch': 'main', 'status': 'completed'}, {'sha': mirror.runs[19_999].facts.sha or ''},
+                                               {'sha': mirror.runs[9_000].facts.sha or 'none'}]
+                wanted = [[run.id for run in mirror.select('octo/hello', **one) if run.id > 10_000] for one in asked]
+                began = time.perf_counter()
+                mirror.forget_through(10_000)
+                took = time.perf_counter() - began
+                assert [[run.id for run in mirror.select('octo/hello', **one)] for one in asked] == wanted and len(mirror.runs) == 10_000
+            with capsys.disabled():
+                print(f'\n10,000 of 20,000 runs are forgotten in {took * 1e3:.0f} ms')
+            assert took < 1
+    play(test(), 600)
 
 
 @pytest.mark.quick

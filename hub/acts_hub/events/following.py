@@ -64,10 +64,12 @@ class Follower:
             if number in self.hub.mirror.runs:
                 self.states.setdefault(number, {})[attempt] = json.loads(value)
         self.hub.mirror.dropped.append(self.forget)
+        self.hub.mirror.forgot.append(self.forget_through)
         base = self.base = self.hub.notes.get(0, 0, KIND, BASE)
         newest = max(self.hub.mirror.runs, default=0)
         run = self.hub.mirror.runs.get(base['run']) if base and base['run'] else None
-        if base is None or base['run'] and (run is None or run.row.delivery != base['delivery']):
+        is_forgotten = base is not None and base['run'] <= self.hub.mirror.forgotten
+        if base is None or base['run'] and not is_forgotten and (run is None or run.row.delivery != base['delivery']):
             if base is not None:
                 say('events: this is another store, or an older copy: what has completed there is not told of')
             self.note_base(newest)
@@ -98,6 +100,10 @@ class Follower:
     def forget(self, run: int) -> None:
         """Forgets a run that is gone, or that another one has taken the place of."""
         self.states.pop(run, None)
+
+    def forget_through(self, last: int) -> None:
+        """Forgets the runs up to one, which the service has forgotten."""
+        self.states = {run: states for run, states in self.states.items() if run > last}
 
     def told(self, run: Run) -> str | None:
         """The state of a run's attempt that was told."""

@@ -22,6 +22,11 @@ class Environments:
     def __init__(self, database: Database, notes: NoteStore, mirror: Mirror) -> None:
         self.database, self.notes, self.mirror = database, notes, mirror
         self.approved: dict[int, int] = {}
+        mirror.forgot.append(self.forget_through)
+
+    def forget_through(self, last: int) -> None:
+        """Forgets the approvals of the runs up to one, which the service has forgotten."""
+        self.approved = {run: attempt for run, attempt in self.approved.items() if run > last}
 
     def load(self) -> None:
         """Takes up the approvals of an earlier life."""

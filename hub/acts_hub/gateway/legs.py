@@ -60,6 +60,8 @@ class Legs:
         claim = claim_of(request, identity)
         run, number = number_in(request, 'run'), number_in(request, 'lease')
         found = self.leases.get(run, number)
+        if run <= self.mirror.forgotten:
+            raise web.HTTPForbidden(text='the service has forgotten the run, and nothing more is kept of it')
         if found is not None and found.claim != str(claim):  # only a claim that passes as a line replaces another
             raise web.HTTPForbidden(text='the lease was got by another claim')
         if found is None:

@@ -5,11 +5,12 @@ import pathlib
 import re
 import secrets
 import threading
+from collections.abc import Sequence
 from dataclasses import dataclass
 
 from ..times import now
 from .database import Database
-from .files import FileTooLarge, NewFile, WrongDigest, remove_tree, remove_unfinished
+from .files import FileTooLarge, NewFile, WrongDigest, remove_tree, remove_unfinished, runs_in
 
 NAME = re.compile(r'[^":<>|*?\r\n\\/\0]{1,255}')
 MAX_A_RUN = 1000
@@ -155,6 +156,13 @@ class ArtifactStore:
                 self.delete(one.id)
             self._by_run.pop(run, None)
         remove_tree(self.folder / f'{run // 1000:d}' / f'{run:d}')
+
+    def runs(self, last: int) -> Sequence[int]:
+        """The runs up to one that have an artifact, or a folder for some."""
+        with self._lock:
+            self._load()
+            found = [run for run in self._by_run if run <= last]
+        return sorted({*found, *runs_in(self.folder, last)})
 
     def expire(self, at: int) -> int:
         """Removes those whose days are over, and what was left half written; says how many."""

@@ -54,6 +54,7 @@ class AttemptStore:
         self._tickets: dict[Attempt, int] = {}
         self._wholes: Overlay[Attempt, dict[str, Any]] = Overlay(database)
         self._forgotten: dict[int, int | None] = {}         # run -> the number under which it is deleted, once that is known
+        self._through = 0                                   # the runs up to this one are forgotten, whatever the file still has
 
     def load(self) -> None:
         """Reads the notes of all attempts."""
@@ -151,12 +152,25 @@ class AttemptStore:
         self._wholes.drop(lambda key: key[0] == run)
         self._forgotten[run] = None
 
+    def forget_through(self, last: int) -> None:
+        """Forgets all of the runs up to one in memory. Those behind it are shown: a store that was restored has fewer forgotten runs."""
+        self._through = last
+        for key in [key for key in self.notes if key[0] <= last]:
+            del self.notes[key]
+        for key in [key for key in self._legs if key[0] <= last]:
+            del self._legs[key]
+            self._tickets.pop(key, None)
+        self._wholes.drop(lambda key: key[0] <= last)
+        self._forgotten = {run: ticket for run, ticket in self._forgotten.items() if run > last}
+
     def deleted(self, runs: Iterable[int], ticket: int) -> None:
         """Says under which number forgotten runs are deleted: until then the file still has them."""
         for run in runs:
             self._forgotten[run] = ticket
 
     def _is_forgotten(self, run: int) -> bool:
+        if run <= self._through:
+            return True
         if run not in self._forgotten:
             return False
         ticket = self._forgotten[run]

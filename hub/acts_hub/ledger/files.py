@@ -1,6 +1,7 @@
 """Files that are written under another name, bounded, and take their place once they are whole."""
 from __future__ import annotations
 
+import contextlib
 import hashlib
 import os
 import pathlib
@@ -91,3 +92,27 @@ def remove_unfinished(folder: pathlib.Path, seconds: float = 86_400) -> None:
 def remove_tree(folder: pathlib.Path) -> None:
     """Removes a folder with all that is in it."""
     shutil.rmtree(folder, ignore_errors=True)
+
+
+def runs_in(folder: pathlib.Path, last: int) -> list[int]:
+    """The runs up to one that have a folder, ascending: N/RUN, of thousand runs in each N."""
+    found: list[int] = []
+    for above in sorted(_numbers(folder)):
+        if above * 1000 <= last:
+            found += sorted(run for run in _numbers(folder / str(above)) if run // 1000 == above and 0 < run <= last)
+    return found
+
+
+def remove_empty(folder: pathlib.Path, last: int) -> None:
+    """Removes the empty N of folders N/RUN that no run behind this one will be in."""
+    for above in _numbers(folder):
+        if above * 1000 + 999 <= last:
+            with contextlib.suppress(OSError):
+                (folder / str(above)).rmdir()
+
+
+def _numbers(folder: pathlib.Path) -> list[int]:
+    try:
+        return [int(name) for name in os.listdir(folder) if name.isascii() and name.isdecimal() and len(name) < 10]
+    except OSError:
+        return []

@@ -5,13 +5,13 @@ import json
 import os
 import pathlib
 import re
-import shutil
 import threading
 from collections.abc import Callable, Iterator
 from dataclasses import dataclass, replace
 from typing import Any
 
 from ..times import iso_exact, now
+from .files import remove_tree, runs_in
 
 JOB = re.compile(r'[A-Za-z_][A-Za-z0-9_-]{0,99}')
 MAX_NUMBER = 999_999_999
@@ -248,12 +248,17 @@ class LogStore:
         path.with_suffix('.steps').unlink(missing_ok=True)
         self._cut.pop(path, None)
 
-    def drop(self, run: int) -> None:
-        """Removes all of a run."""
-        folder = self._of_run(run)
-        shutil.rmtree(folder, ignore_errors=True)
-        for path in [path for path in self._cut if folder in path.parents]:
-            del self._cut[path]
+    def drop(self, *runs: int) -> None:
+        """Removes all of these runs."""
+        folders = set(map(self._of_run, runs))
+        for folder in folders:
+            remove_tree(folder)
+        for path in [path for path in list(self._cut) if path.parent.parent in folders]:
+            self._cut.pop(path, None)
+
+    def runs(self, last: int) -> list[int]:
+        """The runs up to one of which there is a folder."""
+        return runs_in(self.folder, last)
 
     def expire(self, before: int, keep: Callable[[int], bool] = lambda run: False) -> int:
         """Removes the runs of which nothing was written since a time, but for those to keep; says how many."""

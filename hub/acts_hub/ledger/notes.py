@@ -51,6 +51,10 @@ class NoteStore:
                 found[key[3]] = json.loads(text)
         return {name: value for name, value in found.items() if value is not None}
 
+    def forget_through(self, last: int) -> None:
+        """Forgets what waits to be written of the runs up to one; run 0 is none."""
+        self._overlay.drop(lambda key: 0 < key[0] <= last)
+
     def drop(self, run: int) -> None:
         """Forgets all of a run."""
         self._overlay.drop(lambda key: key[0] == run)

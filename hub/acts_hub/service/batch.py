@@ -45,6 +45,10 @@ class Batch:
         self.extend(self._mirror.forget(run))
         self._forgotten.add(run)
 
+    def forget_through(self, last: int) -> None:
+        """Leaves out what was noted of the legs of the runs up to one."""
+        self._legs = {key: notes for key, notes in self._legs.items() if key[0] > last}
+
     def write(self, cursor: str | None = None) -> None:
         """Writes it, with the cursor from which to go on."""
         attempts = self._mirror.attempts

@@ -224,11 +224,15 @@ class Changes:
         note.state = line.state if line.state in ENDS else None
 
     def _forgotten(self, line: Forgotten) -> None:
-        """The service has these runs no more. What is kept of them stays till its days are over."""
-        for run in [run for run in self.mirror.runs if run <= line.through]:
-            self.mirror.gone(run)
-            self.attempts.pop(run, None)
-            self._changed.add(run)
+        """The service has these runs no more. A list that was made since may know of more."""
+        last = max(line.through, self.mirror.forgotten)
+        self._changed |= self.forget_through(last)
+        self._batch.forget_through(last)
+
+    def forget_through(self, last: int) -> set[int]:
+        """The runs up to this one are forgotten. Says which were shown."""
+        self.attempts = {run: attempt for run, attempt in self.attempts.items() if run > last}
+        return self.mirror.forget_through(last)
 
     def _touch(self, run: int, at: int | None, is_end: bool = False) -> None:
         """A run has changed: it is looked at soon, unless lines of its legs say all."""

@@ -112,7 +112,7 @@ class Follower:
             lines, cursor = await self.mirror.view.changes(cursor, 0)
 
     async def _list(self, verify: bool) -> None:
-        """Lists all runs. With `verify`, the service may be another one, or restored."""
+        """Lists all runs: those before the first one are forgotten. With `verify`, the service may be another one, or restored."""
         mirror, began = self.mirror, time.monotonic()
         rows: dict[int, Row] = {}
         before: int | None = None
@@ -122,6 +122,7 @@ class Follower:
             if before is None:
                 break
         kept = {**mirror.kept.all(), **{run.id: kept_of(run.row, run.facts, run.digest, run.created_at, run.created_source) for run in mirror.runs.values()}}
+        self.changes.forget_through(min(rows) - 1 if rows else await mirror.view.forgotten())
         for run in mirror.runs.keys() - rows.keys():
             mirror.gone(run)
         batch, listed = Batch(mirror), now()

@@ -3,11 +3,13 @@ from __future__ import annotations
 
 import bisect
 from collections import OrderedDict
-from collections.abc import Mapping, Sequence
+from collections.abc import Hashable, Mapping, Sequence
+from typing import TypeVar
 
 Values = Mapping[str, str | None]
 Asked = frozenset[tuple[str, str]]
 MAX_COMBINED = 128
+Key = TypeVar('Key', bound=Hashable)
 
 
 class Index:
@@ -84,6 +86,13 @@ class Index:
             if where == repository and fits(values, asked):
                 remove(ids, number)
 
+    def drop_through(self, last: int) -> None:
+        """The runs with ids up to this one are gone."""
+        cut(self._all, last)
+        cut(self._fields, last)
+        for ids in self._combined.values():
+            del ids[:bisect.bisect_right(ids, last)]
+
 
 def fits(values: Values, asked: Asked) -> bool:
     """Whether a run has all of these values."""
@@ -103,3 +112,12 @@ def remove(ids: list[int], number: int) -> None:
     at = bisect.bisect_left(ids, number)
     if at < len(ids) and ids[at] == number:
         del ids[at]
+
+
+def cut(lists: dict[Key, list[int]], last: int) -> None:
+    """Takes the ids up to one away, and lists that have no other."""
+    for key in [key for key, ids in lists.items() if ids[0] <= last]:
+        ids = lists[key]
+        del ids[:bisect.bisect_right(ids, last)]
+        if not ids:
+            del lists[key]

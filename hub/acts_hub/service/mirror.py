@@ -38,6 +38,8 @@ class Mirror:
         self.version = 0
         self.fault: str | None = None
         self.dropped: list[Callable[[int], None]] = []      # called with a run whose ledger was dropped: its logs and artifacts go too
+        self.forgotten = 0                                  # the service has forgotten the runs up to this one
+        self.forgot: list[Callable[[int], None]] = []       # called with the last of the runs that the service has forgotten
         self.snapshots: OrderedDict[int, Json] = OrderedDict()
         self._snapshot_legs: dict[int, int] = {}
         self._bodies: OrderedDict[tuple[int, str], bytes] = OrderedDict()
@@ -162,7 +164,7 @@ class Mirror:
         return run
 
     def gone(self, run: int) -> None:
-        """The service has the run no more. What the ledger keeps of it stays till its days are over, or another run has its id."""
+        """A service that was restored has the run no more. What the ledger keeps of it stays till its days are over, or another run has its id."""
         known = self.runs.pop(run, None)
         self.drop_snapshot(run)
         if known is not None:
@@ -177,6 +179,21 @@ class Mirror:
         for call in self.dropped:
             call(run)
         return self.kept.drop(run)
+
+    def forget_through(self, last: int) -> set[int]:
+        """The service has forgotten the runs up to this one: they are shown no more, and what is kept of them goes soon. Says which were shown."""
+        self.forgotten = last
+        found = {run for run in self.runs if run <= last}
+        for run in found:
+            del self.runs[run]
+            self.drop_snapshot(run)
+        for key in [key for key in self._bodies if key[0] <= last]:
+            del self._bodies[key]
+        self._index.drop_through(last)
+        self.attempts.forget_through(last)
+        for call in self.forgot:
+            call(last)
+        return found
 
     def expire(self, before: int) -> None:
         """Drops what is kept of runs that the service has no more and that are older than this."""

@@ -2,6 +2,7 @@
 from __future__ import annotations
 
 import json
+import re
 from typing import Any
 from urllib.parse import quote
 
@@ -120,6 +121,14 @@ class ViewPort:
         if status != 200:
             raise Away(f'the service answers /metrics with {status}')
         return text.decode()
+
+    async def forgotten(self) -> int:
+        """The id through which runs are forgotten, for when there is none behind them; 0 where the service does not say."""
+        try:
+            found = re.search('^acts_forgotten_runs ([0-9]+)$', await self.metrics(), re.MULTILINE)
+        except Away:
+            return 0
+        return int(found[1]) if found else 0
 
     async def healthy(self) -> bool:
         """Whether the service says that it is well."""
