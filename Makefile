@@ -38,8 +38,8 @@ install:
 example: build
 	$(ACTS) play < examples/fan_out_fan_in.script | diff - examples/fan_out_fan_in.answers
 
-# All of examples/ with a trial of the program: the quick start, on free ports; what an operator does; the board of runs; and four stores on two machines. Needs
-# bash, curl, jq, git, Python 3.9 and util-linux, and says what is missing. What was tried of runners, events, the watchdog, units and metrics is in hub/tests.
+# All of examples/ with a trial of the program: the quick start, on free ports; what an operator does; and four stores on two machines. Needs
+# bash, curl, jq, git, Python 3.9 and util-linux, and says what is missing. What was tried of runners, events, the watchdog, units, metrics and the board is in hub/tests.
 # `examples/try_examples $(ACTS)` does the same with the proved program.
 serve-example:
 	examples/try_examples

@@ -46,7 +46,7 @@ def run_with_hub(options: Options) -> None:
     from .sender import Sender
     hub = Hub.of(options)
     sender = Sender(options, Hub.of(options))
-    runner = Runner(options, HubPort(hub), HubFacts(hub, tell_of(options)))
+    runner = Runner(options, HubPort(hub, options.ephemeral), HubFacts(hub, tell_of(options)))
     sender.begin(runner.state.name)
     try:
         runner.run()

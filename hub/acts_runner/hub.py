@@ -227,8 +227,8 @@ class HubSession:
 class HubPort:
     """The runner port of a service behind a hub. A stream is kept a while, so that beats need no new one."""
 
-    def __init__(self, hub: Hub) -> None:
-        self.hub, self.place = hub, hub.url
+    def __init__(self, hub: Hub, is_ephemeral: bool = False) -> None:
+        self.hub, self.place, self.query = hub, hub.url, '?ephemeral=true' if is_ephemeral else ''
         self.kept: HubSession | None = None
 
     @contextlib.contextmanager
@@ -251,7 +251,7 @@ class HubPort:
         """A new stream."""
         async def connect() -> aiohttp.ClientWebSocketResponse:
             client = await self.hub.session()
-            url = f'{self.hub.url}/runner/v1/lines'
+            url = f'{self.hub.url}/runner/v1/lines{self.query}'
             opened = client.ws_connect(url, max_msg_size=MAX_ANSWER, ssl=self.hub.tls or False)
             return await asyncio.wait_for(opened, 60)
         try:

@@ -26,6 +26,7 @@ class Options:
     ca: str | None = None
     port: int | None = None
     once: bool = False
+    ephemeral: bool = False
     pause: float = 5
     beat: float = 20
     state: str = ''
@@ -81,6 +82,7 @@ def add_waits(made: argparse.ArgumentParser) -> None:
     """When it asks, and when it ends."""
     add = made.add_argument
     add('--once', action='store_true', help='end when there is nothing to do')
+    add('--ephemeral', action='store_true', help='end after one leg; the hub then forgets its name, also if its host is gone')
     add('--pause', type=float, default=5, help='seconds until it asks again when there is nothing to do (5)')
     add('--beat', type=float, default=20, help='seconds between two beats (20)')
 
@@ -134,6 +136,8 @@ def read_options(words: Sequence[str]) -> Options:
         made.error('either --hub URL, or --port N')
     if given.hub is not None:
         check_hub(made, given)
+    elif given.ephemeral:
+        made.error('--ephemeral is for a runner with a hub')
     if not re.fullmatch(NAME, given.name):
         made.error('a name has 1 to 51 letters, digits, _, - and .')
     if not re.fullmatch(LABELS, given.labels):

@@ -68,6 +68,8 @@ class Runner:
         while True:
             if self.state.kept.leg:
                 self.finish(self.state.kept.leg)
+                if self.options.ephemeral and not self.state.kept.leg:
+                    return
             elif self.signals or not self.claim():
                 return
 

@@ -29,7 +29,7 @@ from acts_hub.doors import namespace
 WHY_NOT = namespace.missing() or ('needs root, so that steps are another user' if os.geteuid() else None)
 closed_alone = pytest.mark.skipif(WHY_NOT is not None, reason=str(WHY_NOT))
 KILLS = int(os.environ.get('HUB_KILLS', '4'))
-LOG_BYTES = int(os.environ.get('HUB_LOG_BYTES', '100000000'))
+LOG_BYTES = 100_000_000
 SECRET = 'the-key-of-production'
 DEPLOY = {'repo': 'octo/hello', 'path': '.github/workflows/deploy.yml', 'github': {'ref': 'refs/heads/main', 'ref_name': 'main', 'actor': 'mona'},
           'workflow': {'jobs': {'deploy': {'runs-on': 'linux', 'environment': 'production', 'steps': [
@@ -229,8 +229,9 @@ def start_runner(hub: HubProcess, folder: pathlib.Path, name: str = 'up') -> Pro
     return made
 
 
-def test_a_log_of_a_gigabyte_is_bounded(make_hub: Callable[..., HubProcess], service: Service, tmp_path: pathlib.Path) -> None:
-    """A step that prints far more than a leg may keep (HUB_LOG_BYTES=1000000000 for a gigabyte): the run ends well, the hub keeps its bound, and stays small."""
+def test_a_loud_step_is_bounded(make_hub: Callable[..., HubProcess], service: Service, tmp_path: pathlib.Path) -> None:
+    """A step that prints far more than a leg may keep: the run ends well, the hub keeps its bound, and stays small. A gigabyte of a runner that bounds nothing:
+    test_hostile_logs.py."""
     hub = make_hub(tables={'retention': {'log_bytes_a_leg': 1 << 20}})
     runner = start_runner(hub, tmp_path)
     try:

@@ -18,7 +18,7 @@ from acts_hub.pages.lines import Key, LogFile
 
 KEY = Key(1, 1, 'build', 0, 1)
 LEG = 1, 1, 'build', 0, 1
-GIGABYTE = 1 << 30
+LONG = 1 << 28  # bytes
 
 
 def log_of(folder: pathlib.Path, data: bytes) -> LogFile:
@@ -99,19 +99,19 @@ def peak(hub: HubProcess) -> int:
     return int(found[1]) << 10
 
 
-def test_a_log_of_a_gigabyte_does_not_fill_memory(service: Service, make_hub: Callable[..., HubProcess]) -> None:
-    hub = make_hub(tables={'retention': {'log_bytes_a_leg': 2 * GIGABYTE}})
+def test_a_log_of_an_operator_with_a_larger_bound_does_not_fill_memory(service: Service, make_hub: Callable[..., HubProcess]) -> None:
+    hub = make_hub(tables={'retention': {'log_bytes_a_leg': 2 * LONG}})
     stage = Stage(service, hub)
-    stage.logs = LogStore(hub.state / 'logs', 2 * GIGABYTE)
+    stage.logs = LogStore(hub.state / 'logs', 2 * LONG)
     stage.admit()
     leg = stage.claim()
     leg.begin('Run it')
     text = b'2026-11-30T19:30:00.0000000Z line %012d of a log that is long, so that it has many lines\n'
     piece = b''.join(text % number for number in range(12_000))
-    count = GIGABYTE // len(piece) + 1
+    count = LONG // len(piece) + 1
     for number in range(count):
         leg.length = stage.logs.append(*leg.key(), leg.length, piece)
-    assert leg.length > GIGABYTE
+    assert leg.length > LONG
     leg.end('failure').done('failure')
     stage.seen(leg.run, 'completed')
     token, before, begun = hub.token('mona', 'read'), peak(hub), time.monotonic()

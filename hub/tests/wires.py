@@ -13,9 +13,9 @@ from harness import Answer, HubProcess
 class Wire:
     """One WebSocket, with a token."""
 
-    def __init__(self, hub: HubProcess, token: str, tag: str = '') -> None:
+    def __init__(self, hub: HubProcess, token: str, tag: str = '', path: str = '') -> None:
         """The tag ends all names, so that tests that share a hub have names of their own."""
-        self.hub, self.token, self.tag, self.loop = hub, token, tag, asyncio.new_event_loop()
+        self.hub, self.token, self.tag, self.path, self.loop = hub, token, tag, path, asyncio.new_event_loop()
         self.client: aiohttp.ClientSession | None = None
         self.numbers: dict[str, int] = {}
         self.life = f'life-{uuid.uuid4().hex[:12]}'
@@ -25,7 +25,7 @@ class Wire:
     async def _open(self) -> aiohttp.ClientWebSocketResponse:
         self.client = aiohttp.ClientSession(headers={'Authorization': f'Bearer {self.token}'})
         try:
-            return await self.client.ws_connect(f'{self.hub.url}/runner/v1/lines', ssl=self.hub.context or False)
+            return await self.client.ws_connect(f'{self.hub.url}/runner/v1/lines{self.path}', ssl=self.hub.context or False)
         except aiohttp.ClientError:
             await self.client.close()
             raise

@@ -17,6 +17,7 @@ from .connect.service import SECONDS_OF_SILENCE as SILENCE_OF_TASKS
 from .connect.service import RunnerService
 from .environments import Environments
 from .findings import Findings
+from .leaving import DAYS, GRACE, SECONDS_OF_ALL, Leaving
 from .legs import PATH, Legs
 from .logs import Logs
 from .passing import Passing
@@ -39,7 +40,10 @@ class Gateway:
         self.environments = Environments(hub.database, hub.notes, hub.mirror)
         self.findings = Findings(hub.notes, hub.logs)
         self.passing = Passing(hub.view, hub.hooks, hub.database, hub.notes, hub.logs, self.environments)
-        self.sockets = Sockets(hub.runner_port, self.passing,
+        self.leaving = Leaving(hub, self.passing.leases, float(table.get('runner_days', DAYS)),
+                               float(table.get('seconds_between_looks', SECONDS_OF_ALL)),
+                               float(table.get('seconds_of_grace', GRACE)))
+        self.sockets = Sockets(hub.runner_port, self.passing, self.leaving,
                                int(table.get('connections_a_token', CONNECTIONS_A_TOKEN)),
                                float(table.get('silence', SECONDS_OF_SILENCE)))
         self.legs = Legs(hub.config, hub.view, hub.notes, self.passing.leases, hub.database, free_environments(hub),
@@ -50,22 +54,24 @@ class Gateway:
         self.places = Places(self.legs, body_of(hub), hub.events)
         self.approvals = Approvals(hub, self.environments)
         silence = float(table.get('silence_of_tasks', SILENCE_OF_TASKS))
-        self.connect = RunnerService(hub, self.passing, self.legs, self.findings, silence,
+        self.connect = RunnerService(hub, self.passing, self.leaving, self.legs, self.findings, silence,
                                      int(table.get('runners_a_token', RUNNERS_A_TOKEN)))
-        self.watching: asyncio.Task[None] | None = None
+        self.watching: list[asyncio.Task[None]] = []
 
     async def start(self) -> None:
         """Takes up what an earlier life knew. Each runner takes descriptors: as many as there may be are asked for."""
         soft, hard = resource.getrlimit(resource.RLIMIT_NOFILE)
         resource.setrlimit(resource.RLIMIT_NOFILE, (max(soft, min(hard, 1 << 16)), hard))
         self.environments.load()
-        self.watching = asyncio.create_task(self.connect.watch(), name='tasks of runners that are gone')
+        self.leaving.load()
+        self.watching += [asyncio.create_task(self.connect.watch(), name='tasks of runners that are gone'),
+                          asyncio.create_task(self.leaving.watch(), name='runners that leave')]
 
     async def stop(self) -> None:
         """Closes all streams."""
-        if self.watching:
-            self.watching.cancel()
-            await asyncio.gather(self.watching, return_exceptions=True)
+        for task in self.watching:
+            task.cancel()
+        await asyncio.gather(*self.watching, return_exceptions=True)
         await self.sockets.stop()
 
 

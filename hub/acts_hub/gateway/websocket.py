@@ -12,6 +12,7 @@ from ..access.identity import Identity, Right, require
 from ..log import say
 from ..service.http import Away
 from ..service.lines import Answer, Lines, RunnerPort
+from .leaving import Leaving
 from .passing import Forbidden, Passing, TryAgain
 
 if TYPE_CHECKING:
@@ -28,9 +29,9 @@ MAX_REASON = 120  # bytes of a reason in a frame that closes
 class Sockets:
     """The WebSockets of all runners."""
 
-    def __init__(self, port: RunnerPort, passing: Passing, a_token: int = CONNECTIONS_A_TOKEN,
+    def __init__(self, port: RunnerPort, passing: Passing, leaving: Leaving, a_token: int = CONNECTIONS_A_TOKEN,
                  silence: float = SECONDS_OF_SILENCE) -> None:
-        self.port, self.passing, self.a_token, self.silence = port, passing, a_token, silence
+        self.port, self.passing, self.leaving, self.a_token, self.silence = port, passing, leaving, a_token, silence
         self.open: Counter[int] = Counter()
         self.sockets: set[web.WebSocketResponse] = set()
 
@@ -61,6 +62,8 @@ class Sockets:
                 require_again(request, identity)
                 lines = lines or await self.port.open()
                 runner, answer = await self.passing.answer(identity, runner, text, lines)
+                if runner is not None and text.startswith('CLAIM ') and not answer.text.startswith('refused '):
+                    self.leaving.came(identity, runner, is_ephemeral(request))
                 await asyncio.wait_for(send(socket, answer), SECONDS_TO_SEND)
                 if lines.is_used_up or ends(answer):
                     await close(socket, AGAIN, 'the session of the service has ended')
@@ -73,6 +76,8 @@ class Sockets:
         except (asyncio.TimeoutError, ConnectionError):
             await close(socket, SILENT, 'it does not read what it is answered')
         finally:
+            if runner is not None and is_ephemeral(request):
+                self.leaving.leave(runner, self.leaving.grace)
             if lines is not None:
                 lines.close()
 
@@ -93,6 +98,11 @@ class Sockets:
         """Closes all of them."""
         closing = [close(socket, AGAIN, 'the hub ends') for socket in list(self.sockets)]
         await asyncio.gather(*closing, return_exceptions=True)
+
+
+def is_ephemeral(request: web.Request) -> bool:
+    """Whether a runner says that it takes one leg, and never comes again."""
+    return request.query.get('ephemeral') == 'true'
 
 
 def require_again(request: web.Request, identity: Identity) -> None:

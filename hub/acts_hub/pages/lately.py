@@ -25,3 +25,7 @@ class Lately(Generic[Made]):
             if self._found is None or self._found[0] < asked - self._seconds:
                 self._found = time.monotonic(), await self._ask()
             return self._found[1]
+
+    def stale(self) -> None:
+        """What was found is not so any more."""
+        self._found = None

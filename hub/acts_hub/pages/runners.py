@@ -6,7 +6,8 @@ from dataclasses import dataclass
 
 from aiohttp import web
 
-from ..access.identity import Right
+from ..access.identity import Right, identity_of, require
+from ..service.http import Unsupported
 from ..service.models import Runner, Whole
 from . import moments, states
 from .filters import words_of
@@ -29,6 +30,7 @@ class RunnerRow:
     leg: str
     repository: str
     heard: str
+    remove: str  # where the button leads; empty without one
 
 
 def _row(site: Site, request: web.Request, runner: Runner, wholes: Mapping[int, Whole]) -> RunnerRow:
@@ -43,8 +45,15 @@ def _row(site: Site, request: web.Request, runner: Runner, wholes: Mapping[int, 
                 if (job.id, one.index) == (lease.job, lease.leg):
                     link, leg, repository = leg_link(run, run.row.attempt, index,
                                                      one.index), leg_name(run, job, one), run.row.repository
+    may = lease is None and may_remove(request)
     return RunnerRow(runner.name, sign, runner.labels or (), link, leg, repository,
-                     moments.seconds_ago(runner.heard_seconds_ago))
+                     moments.seconds_ago(runner.heard_seconds_ago), f'/runners/{runner.name}/remove' if may else '')
+
+
+def may_remove(request: web.Request) -> bool:
+    """Whether who asks may discharge runners, which are of no one repository."""
+    identity = identity_of(request)
+    return identity is not None and identity.may(Right.ADMIN)
 
 
 def _fits(runner: Runner, q: str) -> bool:
@@ -68,9 +77,27 @@ async def runners(site: Site, request: web.Request) -> web.StreamResponse:
         sections.append((title, [_row(site, request, one, wholes) for one in found[:most]], max(0, len(found) - most)))
     counts = {'busy': len(kinds['Active']), 'idle': len(kinds['Idle']), 'away': len(kinds['Offline']), 'all': len(every)}
     return site.page(request, 'runners.html', title='Runners', active='runners', q=q, counts=counts, sections=sections,
-                     away_words=moments.span(AWAY), changes='/-/changes', every=10)
+                     away_words=moments.span(AWAY), changes='/-/changes', every=10,
+                     may_remove=may_remove(request))
+
+
+async def remove(site: Site, request: web.Request) -> web.StreamResponse:
+    """Discharges a runner that holds no lease."""
+    require(request, Right.ADMIN)
+    await site.check_form(request)
+    name = request.match_info['name']
+    if site.gateway is None:
+        raise web.HTTPNotFound
+    try:
+        reply = await site.gateway.leaving.discharge(name)
+    except Unsupported:
+        return site.fault(request, 422, 'This version of the service can not do that yet.')
+    if not reply.ok:
+        return site.fault(request, 409, f'{name} was not removed: {reply.sentence}.')
+    site.runners_lately.stale()
+    raise web.HTTPSeeOther('/runners?did=remove')
 
 
 def routes(site: Site) -> list[web.RouteDef]:
     """Runners."""
-    return [site.get('/runners', runners)]
+    return [site.get('/runners', runners), site.post('/runners/{name:[A-Za-z0-9_.-]{1,64}}/remove', remove)]

@@ -43,6 +43,7 @@ NOTES = {
     'cancel': 'A cancellation of the run was requested.', 'force-cancel': 'The run was cancelled.',
     'rerun': 'A re-run of all jobs has begun.', 'rerun-failed': 'A re-run of the failed jobs has begun.',
     'dispatch': 'A run of the workflow was requested. It is listed here once it exists.',
+    'remove': 'The runner was removed.',
     'approve': 'The environment was approved for this run.'}
 SENTENCES = {
     404: ('Not found', 'There is nothing here, or you may not see it.'),

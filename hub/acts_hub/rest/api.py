@@ -75,6 +75,10 @@ class Api:
         """A route that reads, of no repository."""
         return web.get(PREFIX + path, self.guarded(handler))
 
+    def act(self, method: str, path: str, handler: Handler) -> web.RouteDef:
+        """A route of another method, of no repository."""
+        return web.route(method, PREFIX + path, self.guarded(handler))
+
     def download(self, path: str, handler: Handler) -> web.RouteDef:
         """A route that sends a file to who has a signed address; without HEAD."""
         return web.get(f'{PREFIX}/acts/downloads{path}', self.guarded(handler), allow_head=False)
@@ -159,9 +163,13 @@ class Api:
         except web.HTTPForbidden:
             raise Fault(403, 'Resource not accessible by personal access token',
                         headers={'X-Accepted-GitHub-Permissions': 'actions=write'}) from None
+        return repository, self.acting(identity)
+
+    def acting(self, identity: Identity) -> Identity:
+        """Who asks, if it is by a token."""
         if identity.is_browser:
             raise Fault(403, 'This needs a token in the field Authorization; a sign-in by browser does not do.')
-        return repository, identity
+        return identity
 
     # what addresses name
 

@@ -5,7 +5,7 @@ from typing import Any
 
 from aiohttp import web
 
-from ..access.identity import Right, require
+from ..access.identity import Identity, Right, require
 from ..service.models import Runner
 from .api import Api
 from .errors import Fault
@@ -15,6 +15,11 @@ from .pages import Page
 ONLINE_SECONDS = 60
 NOT_REGISTERED = ('A runner is not registered by the API: make a token with acts-hub token, '
                   'and start acts-runner with it.')
+
+
+NOT_REMOVED = 'This version of the service keeps the names of runners for ever.'
+OF_ALL = 'A runner is of no one repository: this needs an admin token for all of them.'
+HAS_LEASE = 42
 
 
 class RunnerRequests:
@@ -29,6 +34,8 @@ class RunnerRequests:
         return [get('/actions/runners', self.of_repository), get('/actions/runners/{runner:[0-9]+}', self.one),
                 get('/actions/runners/{runner:[0-9]+}/labels', self.labels),
                 self.api.top('/orgs/{org}/actions/runners', self.of_organisation),
+                on('DELETE', '/actions/runners/{runner:[0-9]+}', self.remove),
+                self.api.act('DELETE', '/orgs/{org}/actions/runners/{runner:[0-9]+}', self.remove_of_organisation),
                 on('POST', '/actions/runners/{kind:registration-token|remove-token|generate-jitconfig}', self.register)]
 
     async def of_repository(self, request: web.Request) -> web.Response:
@@ -59,9 +66,37 @@ class RunnerRequests:
         is_online = one.heard_seconds_ago is not None and one.heard_seconds_ago < ONLINE_SECONDS
         return self.api.shapes.runner(one.name, one.labels, is_online, one.lease is not None)
 
+    async def remove(self, request: web.Request) -> web.Response:
+        """Discharges a runner that runs no job."""
+        _, identity = self.api.writable(request, Right.ADMIN)
+        return await self.removed(request, identity)
+
+    async def remove_of_organisation(self, request: web.Request) -> web.Response:
+        """The same, below an organisation."""
+        return await self.removed(request, self.api.acting(require(request, Right.ADMIN)))
+
+    async def removed(self, request: web.Request, identity: Identity) -> web.Response:
+        """204 once the service knows the runner no more. A runner is of no one repository, so a token for all is needed."""
+        if not identity.may(Right.ADMIN):
+            raise Fault(403, OF_ALL)
+        gateway = self.api.gateway
+        if gateway is None:
+            raise Fault(404)
+        runner = await self.of_number(request)
+        reply = await self.api.newer(gateway.leaving.discharge(runner.name), NOT_REMOVED)
+        if reply.refusal == HAS_LEASE:
+            raise Fault(422, f'Runner "{runner.name}" is currently running a job and cannot be deleted.')
+        if not reply.ok:
+            raise Fault(503, f'The service refuses: {reply.sentence}.')
+        return web.Response(status=204)
+
     async def named(self, request: web.Request) -> Runner:
         """The runner of an address."""
         self.api.repository(request)
+        return await self.of_number(request)
+
+    async def of_number(self, request: web.Request) -> Runner:
+        """The runner of this number."""
         number = decimal(request.match_info['runner'])
         found = next((one for one in await self.runners() if number_of('runner', one.name) == number), None)
         if found is None:

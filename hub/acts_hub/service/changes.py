@@ -127,6 +127,8 @@ class Changes:
             self._ended(command['lease'], command['result'], at)
         elif name == 'lost' and reply[0] == 'ok' and command['runner'] in self.leases.held:
             self._ended(self.leases.held[command['runner']], None, at)
+        elif name == 'discharge' and reply[0] == 'ok':
+            self._batch.add(self.mirror.runner_store.forget(command['runner']))
         elif reply[0] == 'again' and len(reply) >= 3:
             self._again(int(reply[1]), int(reply[2]), at)
 

@@ -11,7 +11,7 @@ from .http import Away, ServiceClient, Unsupported
 NEWER = {'retry': '/runs/1/attempts/2/failed-jobs', 'force': '/runs/1/force-cancel'}
 SUPPORTED_SECONDS = 60
 REASONS = {
-    40: 'there is no such run', 41: 'the run has completed', 43: 'the run is at another attempt', 44: 'the runner does not hold a lease',
+    40: 'there is no such run', 41: 'the run has completed', 42: 'the runner holds a lease', 43: 'the run is at another attempt', 44: 'the runner does not hold a lease',
     45: 'there is no such runner', 46: 'the history of the service is full', 47: 'the file of the service is full', 48: 'a counter of the service is at its last value',
     49: 'the run has not completed', 50: 'the service has no memory left', 51: 'the disk of the service has failed', 52: 'the disk of the service has failed',
     57: 'the file of the service has an old layout', 60: 'the service has a fault'}
@@ -75,6 +75,10 @@ class HookPort:
     async def lost(self, runner: str, seconds: float | None = 30) -> Reply:
         """Reports a runner lost. Not repeated by itself: the runner may hold another lease by then. A limit may leave one behind, carried out later."""
         return reply_of(*await self.client.request('POST', f'/runners/{quote(runner, safe="")}/lost', seconds=seconds, repeat=False))
+
+    async def discharge(self, runner: str) -> Reply:
+        """Forgets a runner that holds no lease. The same request again finds no such runner."""
+        return await self._newer(f'/runners/{quote(runner, safe="")}/forget')
 
     async def retry(self, run: int, attempt: int) -> Reply:
         """Runs the failed jobs of a completed run again, as this attempt."""

@@ -16,6 +16,7 @@ from ...log import say
 from ...rest.numbers import number_of
 from ...times import now
 from ..findings import Findings
+from ..leaving import Leaving
 from ..legs import Legs, written
 from ..lines import fits
 from ..passing import Passing
@@ -39,8 +40,9 @@ MAX_VERSION = 64  # characters of the version that a runner says
 class RunnerService:
     """The calls, over the lines that any runner behind the hub sends."""
 
-    def __init__(self, hub: Hub, passing: Passing, legs: Legs, findings: Findings, silence: float, a_token: int) -> None:
-        self.hub, self.passing, self.legs, self.silence = hub, passing, legs, silence
+    def __init__(self, hub: Hub, passing: Passing, leaving: Leaving, legs: Legs, findings: Findings, silence: float,
+                 a_token: int) -> None:
+        self.hub, self.passing, self.leaving, self.legs, self.silence = hub, passing, leaving, legs, silence
         self.runners, self.reports = Runners(hub.notes, a_token), Reports(hub, passing.leases, findings)
         self.locks: defaultdict[str, asyncio.Lock] = defaultdict(asyncio.Lock)
         self.heard: dict[str, float] = {}  # slot -> when its runner said something
@@ -117,7 +119,9 @@ class RunnerService:
         return MESSAGES['FetchTaskResponse'](task=task, tasks_version=nothing.tasks_version) if task else nothing
 
     async def forget(self, runner: Runner) -> None:
-        """A runner is known no more."""
+        """A runner is known no more. Its names at the service are discharged."""
+        for name in runner.slots:
+            self.leaving.leave(name)
         self.runners.remove(runner)
         self.locks.pop(runner.uuid, None)
         await written(self.hub.database)
@@ -154,12 +158,14 @@ class RunnerService:
         await written(self.hub.database)
         answer = str(await self.ask(identity, slot, slot.line)).split(' ', 5)
         if answer[0] in ('lease', 'nothing'):
+            self.leaving.came(identity, slot.name, runner.ephemeral)
             slot.number, claim, slot.line = int(slot.line.split()[2]), slot.line, None
             if answer[0] == 'lease':
                 slot.task = {'lease': int(answer[1]), 'run': int(answer[2]), 'job': answer[3], 'claim': claim,
                              'combination': answer[5]}
         elif answer[1:2] in (['42'], ['43']):
             say(f'{slot.name} is given up: the service answers {" ".join(answer)}, which is past what the ledger has')
+            self.leaving.leave(slot.name)
             self.runners.drop(runner, slot)
             return False
         else:
@@ -271,7 +277,7 @@ class RunnerService:
                     say(f'run {task["run"]} {task["job"]}: {slot.name} was silent for {silent:.0f} seconds')
                     await self.done(token.identity(), slot, 'failure')
             if not any(slot.task for slot in self.runners.slots(runner)):
-                await self.age(runner)
+                await self.age(runner, token.holds(now()))
 
     async def task_of(self, identity: Identity, runner: Runner, slot: Slot) -> dict[str, Any] | None:
         """The task that a slot holds, also one for which the answer to its claim was lost."""
@@ -279,13 +285,16 @@ class RunnerService:
             await self.claim(identity, runner, slot)
         return slot.task
 
-    async def age(self, runner: Runner) -> None:
-        """Forgets a runner without a task that has said nothing for long. Of one that an earlier version has kept it is not
-        known when it was heard."""
-        if not runner.seen:
+    async def age(self, runner: Runner, may_come: bool) -> None:
+        """Forgets a runner without a task that has said nothing for long, or may not come again. Of one that an earlier
+        version has kept it is not known when it was heard. One that had its task is still heard, for the end of its log."""
+        if may_come and not runner.seen:
             self.runners.heard(runner)
-        elif runner.is_forgotten(now()):
+        elif not may_come or runner.is_forgotten(now()):
             await self.forget(runner)
+        elif self.runners.is_spent(runner):
+            for name in self.leaving.known.keys() & runner.slots:
+                self.leaving.leave(name)
 
 
 def shown(runner: Runner, token: str = '') -> Any:

@@ -230,7 +230,7 @@ for (const box of document.querySelectorAll('[data-toggles]')) {
   box.addEventListener('change', set);
   set();
 }
-for (const form of document.querySelectorAll('form[data-sure]')) form.addEventListener('submit', event => { if (!confirm(form.dataset.sure)) event.preventDefault(); });
+document.addEventListener('submit', event => { if (event.target.dataset.sure && !confirm(event.target.dataset.sure)) event.preventDefault(); });  // (lists come anew)
 if (document.body.dataset.changes) follow(document.body.dataset.changes);
 if (document.body.dataset.every) setInterval(() => { if (!document.hidden) renew(); }, 1000 * document.body.dataset.every);
 if (log) {
