@@ -23,10 +23,11 @@ $(HUB_ROOT)/demo/acts:
 hub-packages:
 	$(HUB_ROOT)/hub/packages
 
-# All of the hub's tests, on all processors: a file's tests go on in one process. TESTS='tests/NAME.py ..' plays some, HUB_JOBS=N with N processes.
-HUB_JOBS ?= $(shell nproc)
+# All of the hub's tests: a file's tests go on in one process, and of these there are three for two processors, since tests wait a lot. TESTS='tests/NAME.py ..' plays
+# some, HUB_JOBS=N with N processes.
+HUB_JOBS ?= $(shell echo $$(($$(nproc) * 3 / 2)))
 hub-test: $(HUB_ACTS) hub-typed
-	$(HUB_RUN) $(HUB_PYTHON) -m pytest -q -rs -n $(HUB_JOBS) --dist loadfile $(TESTS)
+	$(HUB_RUN) $(HUB_PYTHON) -m pytest -q -rs --durations=12 -n $(HUB_JOBS) --dist loadfile $(TESTS)
 
 # The part that the gate plays: about a minute. Where a package lacks, it says so and leaves the tests out.
 hub-quick: $(HUB_ACTS)

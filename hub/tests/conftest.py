@@ -11,6 +11,18 @@ from rest_stand import Stand, standing
 from runner_trials import Case
 
 
+# These take longest. A file's tests go on in one process, so they begin first: else all others would wait for one of them at the end.
+FIRST = ('test_runner_steps', 'test_workflows', 'test_runner_hub', 'test_pages_browser', 'test_gateway_gitea', 'test_watchdog', 'test_attacks', 'test_runner_actions',
+         'test_doors', 'test_two_hosts', 'test_events_faults', 'test_board', 'test_runner_lines', 'test_runner_hosts', 'test_runner_contained', 'test_mirror_soak',
+         'test_events_following', 'test_leaving', 'test_forgetting', 'test_hostile_logs', 'test_up', 'test_gh', 'test_units', 'test_mirror')
+
+
+def pytest_collection_modifyitems(items: list[pytest.Item]) -> None:
+    """Puts the files of `FIRST` before the others."""
+    ranks = {name: rank for rank, name in enumerate(FIRST)}
+    items.sort(key=lambda item: ranks.get(item.path.stem, len(FIRST)))
+
+
 @pytest.fixture
 def service(tmp_path: pathlib.Path) -> Iterator[Service]:
     """A service with a new store."""

@@ -263,7 +263,7 @@ def test_filters(board: Shown) -> None:
 
 def test_a_run_says_what_each_of_its_parts_waits_for(board: Shown) -> None:
     board.open('runs/3')
-    board.shows(ROWS, ['0 ✓ success', '0 {"part":1} ▸ running r1', '1 {"part":2} ○ ready another leg of the job: 1 at a time (max-parallel)',
+    board.shows(ROWS, ['0 ✓ success r1', '0 {"part":1} ▸ running r1', '1 {"part":2} ○ ready another leg of the job: 1 at a time (max-parallel)',
                        '2 {"part":3} ○ ready another leg of the job: 1 at a time (max-parallel)'])
     assert board.value(TEXTS % 'h3') == ['build ✓ success', 'report · blocked (needs build, tests; it waits for tests)', 'tests ▸ open (needs build; max-parallel 1)']
     found = board.value(TEXTS % 'dd')

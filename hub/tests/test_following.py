@@ -325,11 +325,14 @@ def test_forgotten_runs_are_shown_no_more(tmp_path: pathlib.Path) -> None:
             stand.lines.clear()
             async with mirrored(stand, tmp_path) as mirror:
                 assert sorted(mirror.runs) == [4] and mirror.forgotten == 3
-                stand.say({'after': 1, 'type': 'forgotten', 'through': 2, 'at': 1000})   # of before the list
+                # lines of before the list
+                stand.say({'entry': 1, 'command': {**CREATED, 'delivery': 'd3'}, 'reply': 'created 3', 'at': 900}, {
+                    'after': 1, 'run': 3, 'attempt': 1, 'status': 'queued', 'conclusion': None, 'repository': 'octo/hello', 'path': 'ci.yml', 'workflow': 'CI',
+                    'event': 'push', 'delivery': 'd3', 'number': 3, 'ref': None, 'group': None, 'at': 900}, {'after': 1, 'type': 'forgotten', 'through': 2, 'at': 1000})
                 stand.add(5, status='queued')
                 stand.say({'entry': 2, 'command': {**CREATED, 'delivery': 'd5'}, 'reply': 'created 5', 'at': 1000})
                 await until(lambda: 5 in mirror.runs)
-                assert mirror.forgotten == 3
+                assert mirror.forgotten == 3 and sorted(mirror.runs) == [4, 5]
             stand.forget(4)
             del stand.rows[5]                               # a store that was restored, all of whose runs were forgotten
             async with mirrored(stand, tmp_path) as mirror:

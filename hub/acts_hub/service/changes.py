@@ -67,6 +67,8 @@ class Changes:
             if isinstance(line, Entry) and line.command.get('name') == 'admit' and line.reply[0] == 'created':
                 run = int(line.reply[1])
                 known = self.mirror.runs.get(run)
+                if run <= self.mirror.forgotten:            # a list that was made since says so
+                    continue
                 self.attempts.setdefault(run, 1)
                 if known is None:
                     found.setdefault(run, line.at)
