@@ -30,6 +30,19 @@ def number_of(hub: HubProcess, token: str, name: str) -> int:
 
 
 @pytest.fixture
+def sites(tmp_path: pathlib.Path) -> Iterator[Callable[[HubProcess], Site]]:
+    """Sites, whose runners end with the test."""
+    made: list[Site] = []
+
+    def site(hub: HubProcess) -> Site:
+        made.append(Site(tmp_path, hub))
+        return made[-1]
+    yield site
+    for one in made:
+        one.close()
+
+
+@pytest.fixture
 def wire(hub: HubProcess) -> Iterator[Callable[..., Wire]]:
     """Streams of runners."""
     made: list[Wire] = []
@@ -90,8 +103,8 @@ def test_a_runner_is_removed_by_a_button(service: Service, hub: HubProcess, wire
     assert 'The runner was removed.' in hub.get('/runners?did=remove', headers=signed['admin']).text
 
 
-def test_a_runner_that_is_still_there_comes_again(service: Service, hub: HubProcess, tmp_path: pathlib.Path) -> None:
-    site = Site(tmp_path, hub)
+def test_a_runner_that_is_still_there_comes_again(service: Service, hub: HubProcess, sites: Callable[[HubProcess], Site]) -> None:
+    site = sites(hub)
     host = site.host().start(pause=0.1)
     first = site.admit({'run': 'echo first'})
     until(lambda: service.run(first)['conclusion'] == 'success', what='the first run')
@@ -101,7 +114,6 @@ def test_a_runner_that_is_still_there_comes_again(service: Service, hub: HubProc
     until(lambda: service.run(run)['conclusion'] == 'success', what='the run')
     until(lambda: site.said(run)[-1:] == ['again'], what='its log')
     assert names(service) == [name]
-    host.kill()
 
 
 def test_a_runner_whose_token_is_revoked_is_discharged_once_it_holds_no_lease(service: Service, make_hub: Make, wire: Callable[..., Wire]) -> None:
@@ -134,9 +146,9 @@ def test_a_runner_that_says_nothing_for_days_is_discharged(service: Service, mak
     lines.close()
 
 
-def test_an_ephemeral_runner_takes_one_leg_and_leaves(service: Service, make_hub: Make, tmp_path: pathlib.Path) -> None:
+def test_an_ephemeral_runner_takes_one_leg_and_leaves(service: Service, make_hub: Make, sites: Callable[[HubProcess], Site]) -> None:
     hub = make_hub(tables={'gateway': {'seconds_of_grace': 0.5}})
-    site = Site(tmp_path, hub)
+    site = sites(hub)
     runs = [site.admit({'run': 'echo one leg'}) for _ in range(2)]
     host = site.host().start('--ephemeral', pause=0.1)
     until(host.has_ended, what='its end')
@@ -194,10 +206,10 @@ def test_what_others_discharge_is_forgotten_here(service: Service, make_hub: Mak
 
 
 @pytest.mark.skipif(not shutil.which('protoc'), reason='protobuf-compiler is not installed')
-def test_names_of_giteas_protocol_are_discharged(service: Service, make_hub: Make, tmp_path: pathlib.Path) -> None:
+def test_names_of_giteas_protocol_are_discharged(service: Service, make_hub: Make, sites: Callable[[HubProcess], Site]) -> None:
     from gitea_client import Client, Refusal
     hub = make_hub(tables={'gateway': {'silence_of_tasks': 2}})
-    site = Site(tmp_path, hub)
+    site = sites(hub)
     once, stays = Client(hub), Client(hub)
     once.register(site.token, site.label, ephemeral=True)
     stays.register(site.token, site.label)
